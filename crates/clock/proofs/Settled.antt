@@ -1,0 +1,64 @@
+-- Each promise of the crate settles the whole answer: any two results that it allows are equal.
+-- Assumes nothing.
+use mathlib.Core.Path.{sym, _∙_}
+use Rattle.laws.specs.Settles.{Settles}
+use Rattle.clock.proofs.Count.next.Kinds as next-kinds
+use Rattle.clock.proofs.Count.next.Reads as next-reads
+use Rattle.clock.proofs.Count.distance.Kinds as distance-kinds
+use Rattle.clock.proofs.Count.distance.Reads as distance-reads
+use Rattle.clock.proofs.Count.is_past.Kinds as is-past-kinds
+use Rattle.clock.proofs.Count.is_past.Reads as is-past-reads
+use Rattle.clock.proofs.Count.nearer.Kinds as nearer-kinds
+use Rattle.clock.proofs.Count.nearer.Reads as nearer-reads
+use Rattle.clock.proofs.Count.reach.Kinds as reach-kinds
+use Rattle.clock.proofs.Count.reach.Reads as reach-reads
+use Rattle.clock.proofs.Count.round_trip.Kinds as round-trip-kinds
+use Rattle.clock.proofs.Count.round_trip.Reads as round-trip-reads
+use Rattle.clock.proofs.Timer.stopped.Kinds as stopped-kinds
+use Rattle.clock.proofs.Timer.stopped.Reads as stopped-reads
+use Rattle.clock.proofs.Timer.start.Kinds as start-kinds
+use Rattle.clock.proofs.Timer.start.Reads as start-reads
+use Rattle.clock.proofs.Timer.stop.Kinds as stop-kinds
+use Rattle.clock.proofs.Timer.stop.Reads as stop-reads
+use Rattle.clock.proofs.Timer.tick.Kinds as tick-kinds
+use Rattle.clock.proofs.Timer.tick.Reads as tick-reads
+use Rattle.clock.proofs.Timer.off.Kinds as off-kinds
+use Rattle.clock.proofs.Timer.off.Reads as off-reads
+use Rattle.clock.proofs.Timer.runs.Kinds as runs-kinds
+use Rattle.clock.proofs.Timer.runs.Reads as runs-reads
+
+pub next-settles : Settles 0 next-kinds.ps next-kinds.r next-reads.Post
+next-settles κs a e x y p q = p ∙ sym q
+
+pub distance-settles : Settles 0 distance-kinds.ps distance-kinds.r distance-reads.Post
+distance-settles κs a e x y p q = p ∙ sym q
+
+pub is-past-settles : Settles 0 is-past-kinds.ps is-past-kinds.r is-past-reads.Post
+is-past-settles κs a e x y p q = p ∙ sym q
+
+pub nearer-settles : Settles 0 nearer-kinds.ps nearer-kinds.r nearer-reads.Post
+nearer-settles κs a e x y p q = p ∙ sym q
+
+pub reach-settles : Settles 0 reach-kinds.ps reach-kinds.r reach-reads.Post
+reach-settles κs a e x y p q = p ∙ sym q
+
+pub round-trip-settles : Settles 0 round-trip-kinds.ps round-trip-kinds.r round-trip-reads.Post
+round-trip-settles κs a e x y p q = p ∙ sym q
+
+pub stopped-settles : Settles 0 stopped-kinds.ps stopped-kinds.r stopped-reads.Post
+stopped-settles κs a e x y p q = p ∙ sym q
+
+pub start-settles : Settles 0 start-kinds.ps start-kinds.r start-reads.Post
+start-settles κs a e x y p q = p ∙ sym q
+
+pub stop-settles : Settles 0 stop-kinds.ps stop-kinds.r stop-reads.Post
+stop-settles κs a e x y p q = p ∙ sym q
+
+pub tick-settles : Settles 0 tick-kinds.ps tick-kinds.r tick-reads.Post
+tick-settles κs a e x y p q = p ∙ sym q
+
+pub off-settles : Settles 0 off-kinds.ps off-kinds.r off-reads.Post
+off-settles κs a e x y p q = p ∙ sym q
+
+pub runs-settles : Settles 0 runs-kinds.ps runs-kinds.r runs-reads.Post
+runs-settles κs a e x y p q = p ∙ sym q

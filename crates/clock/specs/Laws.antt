@@ -1,0 +1,147 @@
+-- The laws by which proofs over natural numbers use the distances, lengths and timers of this crate.
+-- Assumes nothing.
+use Prim.Native.Nat.{ℕ, suc, _+_, _-_, _*_, _%_, _^_, _<_, _≤_}
+use mathlib.Core.Path.{_≡_, refl, _∙_, sym, ap}
+use mathlib.Core.Bool.{Bool, true, false, true≢false, false≢true}
+use mathlib.Core.Logic.{⊎-elim, _≢_}
+use lib.Dec.{ltb, leb, eqb}
+use lib.IntN.{ℤ, pos, negsuc}
+use native.Mathlib.Omega.{arith}
+use borrow.Author.Tests.{lt-ltb, le-ltb, lt-leb, le-leb, leb-true, ne-eqb, eqb-false}
+use Rattle.laws.specs.Cases.{cut}
+use Rattle.clock.specs.declared.Reach.{Reach}
+use Rattle.clock.specs.declared.Reach.the-variants.{Past, Ahead}
+use Rattle.clock.specs.declared.Timer.{Timer}
+use Rattle.clock.specs.Counts.{gap, distance, isPast, nearer, reach}
+use Rattle.clock.specs.Numbers.{furthest, quantaOf}
+use Rattle.clock.specs.Timers.{runs, ticked}
+
+-- what wraps back to a when b is added is the gap from b to a
+pub gap-of : (a b r : ℕ) → a < 2 ^ 32 → b < 2 ^ 32 → r < 2 ^ 32 → (r + b) % 2 ^ 32 ≡ a → r ≡ gap b a
+gap-of a b r ha hb hr e = omega arith
+
+pub gap-below : (a b : ℕ) → gap a b < 2 ^ 32
+gap-below a b = omega arith
+
+-- a count is near, its gap below 2 ^ 31, or far
+pub near-or-far : {P : Type 0} (a b : ℕ) → (gap a b < 2 ^ 31 → P) → (2 ^ 31 ≤ gap a b → P) → P
+near-or-far a b near far = ⊎-elim near far (cut (gap a b) (2 ^ 31))
+
+module _ (a b : ℕ) where
+  -- a near count is ahead by its gap
+  module _ (h : gap a b < 2 ^ 31) where
+    pub distance-near : distance a b ≡ pos (gap a b)
+    unfolding distance
+    distance-near = rw (lt-ltb (gap a b) (2 ^ 31) h)
+
+    pub isPast-near : isPast a b ≡ false
+    unfolding isPast
+    isPast-near = rw distance-near (le-ltb (gap a b) 0 (omega arith))
+
+    pub reach-near : reach a b ≡ Ahead (record { 0 = gap a b })
+    unfolding reach
+    reach-near = rw distance-near
+
+  -- a far one is past
+  module _ (h : 2 ^ 31 ≤ gap a b) where
+    pub distance-far : distance a b ≡ negsuc (2 ^ 32 - suc (gap a b))
+    unfolding distance
+    distance-far = rw (le-ltb (gap a b) (2 ^ 31) h, lt-ltb (gap a b) (2 ^ 32) (gap-below a b))
+
+    pub isPast-far : isPast a b ≡ true
+    unfolding isPast
+    isPast-far = rw distance-far
+
+    pub reach-far : reach a b ≡ Past
+    unfolding reach
+    reach-far = rw distance-far
+
+  -- and the test tells which
+  pub near-of : isPast a b ≡ false → gap a b < 2 ^ 31
+  near-of e = near-or-far a b (λ h. h) (λ h. absurd (true≢false (sym (isPast-far h) ∙ e)))
+
+  pub far-of : isPast a b ≡ true → 2 ^ 31 ≤ gap a b
+  far-of e = near-or-far a b (λ h. absurd (false≢true (sym (isPast-near h) ∙ e))) (λ h. h)
+
+-- of two counts that are ahead, the nearer has the smaller gap
+pub nearer-ahead : (n a b : ℕ) → gap n a < 2 ^ 31 → gap n b < 2 ^ 31 → nearer n a b ≡ ltb (gap n a) (gap n b)
+unfolding nearer
+nearer-ahead n a b h k = rw (distance-near n a h, distance-near n b k)
+
+-- so many quanta on from the one count, or back, the counter reads the other
+abbrev pub Leads : ℕ → ℕ → ℤ → Type 0
+Leads from to (pos d) = (d < 2 ^ 31) × ((from + d) % 2 ^ 32 ≡ to)
+Leads from to (negsuc k) = (k < 2 ^ 31) × ((to + suc k) % 2 ^ 32 ≡ from)
+
+-- the distance is exact: it leads from the one count to the other, and no other number does
+module _ (a b : ℕ) (ha : a < 2 ^ 32) (hb : b < 2 ^ 32) where
+  pub distance-leads : Leads a b (distance a b)
+  distance-leads =
+      near-or-far a b
+      (λ h. rw (distance-near a b h) (h, omega arith))
+      (λ h. rw (distance-far a b h) (omega arith, omega arith))
+
+  pub distance-only : (z : ℤ) → Leads a b z → distance a b ≡ z
+  distance-only (pos d) l = distance-near a b (omega arith) ∙ ap pos (omega arith)
+  distance-only (negsuc k) l = distance-far a b (omega arith) ∙ ap negsuc (omega arith)
+
+  -- it is 0 exactly when the counts are equal
+  pub distance-same : a ≡ b → distance a b ≡ pos 0
+  distance-same e = distance-only (pos 0) (omega arith, omega arith)
+
+  pub same-of : distance a b ≡ pos 0 → a ≡ b
+  same-of e =
+      let l : Leads a b (pos 0) = rw e at distance-leads in
+      omega arith
+
+-- a start that may be taken, by its gap
+pub furthest-gap : (now start : ℕ) → furthest now start ≡ leb (gap now start) 62500000
+unfolding furthest
+furthest-gap now start =
+    near-or-far now start
+    (λ h. rw (distance-near now start h, le-leb 0 (gap now start) (omega arith)))
+    (λ h. rw (distance-far now start h, lt-leb (gap now start) 62500000 (omega arith)))
+
+-- and by where it stands, as the code tells it
+abbrev pub taken : Reach → Bool
+taken (Ahead wait) = leb (wait .0) 62500000
+taken Past = false
+
+pub furthest-reach : (now start : ℕ) → furthest now start ≡ taken (reach now start)
+furthest-reach now start =
+    near-or-far now start
+    (λ h. rw (furthest-gap, reach-near now start h))
+    (λ h. rw (furthest-gap, reach-far now start h) (lt-leb (gap now start) 62500000 (omega arith)))
+
+-- rounded up: twice the quanta are enough, and by less than two
+pub quanta-up : (n : ℕ) → (n + 24 ≤ 2 * quantaOf n) × (2 * quantaOf n < n + 24 + 2)
+quanta-up n = (omega arith, omega arith)
+
+-- 60 octets need 42
+pub quanta-frame : quantaOf 60 ≡ 42
+quanta-frame = refl
+
+-- a running timer as facts of numbers, and back
+pub runs-in : (t : Timer) (n : ℕ) → runs t n ≡ true → (1 ≤ t .left) × (t .left ≤ n)
+unfolding runs
+runs-in t n e =
+    ⊎-elim (λ (k : t .left < 1). absurd (false≢true (rw (lt-leb 1 (t .left) k) at e)))
+    (λ (k : 1 ≤ t .left). (k, leb-true (t .left) n (rw (le-leb 1 (t .left) k) at e)))
+    (cut (t .left) 1)
+
+pub runs-of : (t : Timer) (n : ℕ) → 1 ≤ t .left → t .left ≤ n → runs t n ≡ true
+unfolding runs
+runs-of t n h k = rw (le-leb 1 (t .left) h, le-leb (t .left) n k)
+
+-- a running timer loses a tick, and rings at its last
+pub ticked-on :
+    (t : Timer) → 1 ≤ t .left → ticked t ≡ record { timer = record { left = t .left - 1 }; rang = eqb (t .left) 1 }
+unfolding ticked
+ticked-on t h = rw (ne-eqb (t .left) 0 (omega arith))
+
+-- one that does not ring runs on, within the same longest setting
+pub ticked-runs : (t : Timer) (n : ℕ) → runs t n ≡ true → ticked t .rang ≡ false → runs (ticked t .timer) n ≡ true
+ticked-runs t n h e =
+    let r = runs-in t n h in
+    let f : t .left ≢ 1 = eqb-false (t .left) 1 (rw (ticked-on t (r .0)) at e) in
+    rw (ticked-on t (r .0)) (runs-of (record { left = t .left - 1 }) n (omega arith) (omega arith))

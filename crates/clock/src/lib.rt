@@ -1,0 +1,159 @@
+// The clock: counts, lengths and timers. Document 01, "Counts and lengths" and "Numbers".
+ghost use mathlib.Core.Path.{_≡_};
+ghost use Rattle.clock.specs.Counts.{nextOf, distance, isPast, nearer, reach, roundTrip};
+ghost use Rattle.clock.specs.Timers.{off, runs, ticked};
+
+// A reading of the 32-bit counter.
+pub struct Count(pub u32);
+
+// A length: a number of quanta.
+pub struct Quanta(pub u32);
+
+// A count seen from now: its distance is a length unless it is past.
+pub enum Reach {
+    Past,
+    Ahead(Quanta),
+}
+
+impl Quanta {
+    pub const LASER_ON: Quanta = Quanta(32);
+}
+
+impl Count {
+    // The furthest grant start, as a distance from now.
+    pub const FURTHEST: Quanta = Quanta(62_500_000);
+
+    // From half a turn on, a difference is taken as negative.
+    const HALF: u32 = 1 << 31;
+
+    // The counter wraps after a turn.
+    const TURN: i64 = 1 << 32;
+
+    // One quantum later; the counter wraps.
+    pub fn next(self) -> Count
+        ensures { λ r. ⌜ r ≡ nextOf self ⌝ }
+    {
+        Count(std::num::wrapping_add_u32(self.0, 1))
+    }
+
+    // The distance from this count to another, in -2^31 .. 2^31 - 1.
+    pub fn distance(self, to: Count) -> i64
+        ensures { λ r. ⌜ r ≡ distance (self .0) (to .0) ⌝ }
+    {
+        let d = std::num::wrapping_sub_u32(to.0, self.0);
+        if d < Count::HALF {
+            return d as i64;
+        }
+        d as i64 - Count::TURN
+    }
+
+    // Whether a count is past, seen from this one.
+    pub fn is_past(self, at: Count) -> bool
+        ensures { λ r. ⌜ r ≡ isPast (self .0) (at .0) ⌝ }
+    {
+        let d = self.distance(at);
+        d < 0
+    }
+
+    // Whether `a` is nearer than `b`, seen from this count.
+    pub fn nearer(self, a: Count, b: Count) -> bool
+        ensures { λ r. ⌜ r ≡ nearer (self .0) (a .0) (b .0) ⌝ }
+    {
+        let x = self.distance(a);
+        let y = self.distance(b);
+        x < y
+    }
+
+    // Past, or how far ahead, seen from this count.
+    pub fn reach(self, at: Count) -> Reach
+        ensures { λ r. ⌜ r ≡ reach (self .0) (at .0) ⌝ }
+    {
+        let d = self.distance(at);
+        if d < 0 {
+            return Reach::Past;
+        }
+        Reach::Ahead(Quanta(d as u32))
+    }
+
+    // The head's round trip: this count less the timestamp, modulo 2^32.
+    pub fn round_trip(self, timestamp: Count) -> Quanta
+        ensures { λ r. ⌜ r ≡ record { 0 = roundTrip (self .0) (timestamp .0) } ⌝ }
+    {
+        let since = timestamp.distance(self);
+        if since < 0 {
+            return Quanta((since + Count::TURN) as u32);
+        }
+        Quanta(since as u32)
+    }
+}
+
+// A timer: the ticks that are left, 0 when it is stopped.
+pub struct Timer {
+    pub left: u32,
+}
+
+// A timer after a tick, and whether it rang at it.
+pub struct Ticked {
+    pub timer: Timer,
+    pub rang: bool,
+}
+
+impl Timer {
+    // omp_timer
+    pub const WATCHDOG: Quanta = Quanta(62_500_000);
+
+    // Periodic GATE and periodic REPORT.
+    pub const PERIODIC: Quanta = Quanta(3_125_000);
+
+    // Wait for REGISTER and wait for REGISTER_ACK.
+    pub const WAIT: Quanta = Quanta(3_125_000);
+
+    pub fn stopped() -> Timer
+        ensures { λ r. ⌜ r ≡ record { left = 0 } ⌝ }
+    {
+        Timer { left: 0 }
+    }
+
+    pub fn start(self, setting: Quanta) -> Timer
+        ensures { λ r. ⌜ r ≡ record { left = setting .0 } ⌝ }
+    {
+        Timer { left: setting.0 }
+    }
+
+    pub fn stop(self) -> Timer
+        ensures { λ r. ⌜ r ≡ record { left = 0 } ⌝ }
+    {
+        Timer::stopped()
+    }
+
+    // One tick less; it rings at its last one. A stopped timer stays so.
+    pub fn tick(self) -> Ticked
+        ensures { λ r. ⌜ r ≡ ticked self ⌝ }
+    {
+        let left = self.left;
+        if left == 0 {
+            return Ticked {
+                timer: self,
+                rang: false,
+            };
+        }
+        Ticked {
+            timer: Timer { left: left - 1 },
+            rang: left == 1,
+        }
+    }
+
+    pub fn off(self) -> bool
+        ensures { λ r. ⌜ r ≡ off self ⌝ }
+    {
+        self.left == 0
+    }
+
+    // It runs, and has no more left than its longest setting.
+    pub fn runs(self, most: Quanta) -> bool
+        ensures { λ r. ⌜ r ≡ runs self (most .0) ⌝ }
+    {
+        let left = self.left;
+        1 <= left && left <= most.0
+    }
+}

@@ -1,0 +1,5 @@
+pub mod Card
+pub mod Layout
+pub mod Range
+pub mod Reading
+pub mod Writing

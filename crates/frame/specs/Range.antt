@@ -1,0 +1,50 @@
+-- Document 01, "Frames": what is in range. A number is as long as its field; a length is sixteen bits on the wire.
+-- Assumes nothing.
+use Prim.Native.Nat.{ℕ, _^_, _<_}
+use mathlib.Core.List.{List, [], _∷_}
+use Rattle.frame.specs.Layout.{listed}
+use Rattle.frame.specs.declared.Grant.{Grant}
+use Rattle.frame.specs.declared.Body.{Body}
+use Rattle.frame.specs.declared.Body.the-variants.{Gate, Discovery, Report, RegisterReq, Register, RegisterAck}
+use Rattle.frame.specs.declared.Message.{Message}
+
+abbrev pub GrantFits : Grant → Type 0
+GrantFits g = (g .start .0 < 2 ^ 32) × (g .length .0 < 2 ^ 16)
+
+abbrev pub GrantsFit : List Grant → Type 0
+GrantsFit [] = Unit {0}
+GrantsFit (g ∷ gs) = GrantFits g × GrantsFit gs
+
+abbrev pub BodyFits : Body → Type 0
+BodyFits (Gate grants) = GrantsFit (listed grants)
+BodyFits (Discovery grant sync) = GrantFits grant × (sync .0 < 2 ^ 16)
+BodyFits Report = Unit {0}
+BodyFits (RegisterReq flag pending) = pending < 2 ^ 8
+BodyFits (Register port flag sync pending) = (port < 2 ^ 16) × (sync .0 < 2 ^ 16) × (pending < 2 ^ 8)
+BodyFits (RegisterAck flag port sync) = (port < 2 ^ 16) × (sync .0 < 2 ^ 16)
+
+-- a message that has a frame
+pub record Valid (m : Message) : Type 0 where
+  pub destination : m .destination .0 < 2 ^ 48
+  pub source : m .source .0 < 2 ^ 48
+  pub timestamp : m .timestamp .0 < 2 ^ 32
+  pub body : BodyFits (m .body)
+
+-- what the types of the fields see to by themselves: all but the addresses, the lengths and the sync times
+abbrev pub GrantTyped : Grant → Type 0
+GrantTyped g = g .start .0 < 2 ^ 32
+
+abbrev pub GrantsTyped : List Grant → Type 0
+GrantsTyped [] = Unit {0}
+GrantsTyped (g ∷ gs) = GrantTyped g × GrantsTyped gs
+
+abbrev pub BodyTyped : Body → Type 0
+BodyTyped (Gate grants) = GrantsTyped (listed grants)
+BodyTyped (Discovery grant sync) = GrantTyped grant
+BodyTyped Report = Unit {0}
+BodyTyped (RegisterReq flag pending) = pending < 2 ^ 8
+BodyTyped (Register port flag sync pending) = (port < 2 ^ 16) × (pending < 2 ^ 8)
+BodyTyped (RegisterAck flag port sync) = port < 2 ^ 16
+
+abbrev pub Typed : Message → Type 0
+Typed m = (m .timestamp .0 < 2 ^ 32) × BodyTyped (m .body)

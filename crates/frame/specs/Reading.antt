@@ -1,0 +1,68 @@
+-- Document 01, "Reply numbers", of reading: "Reading tests 1, 2, 3, 4"; and "Frames": when a field is in range.
+-- Assumes nothing.
+use Prim.Native.Nat.{ℕ, _+_, _/_, _%_, _^_}
+use mathlib.Core.Path.{_≡_}
+use mathlib.Core.Bool.{Bool, false, cond, _&&_, _||_}
+use mathlib.Core.List.{List, [], _∷_}
+use lib.Dec.{eqb, leb}
+use lib.ListN.{length}
+use Rattle.octets.specs.Octets.{fieldOf}
+use Rattle.frame.specs.Card.{Test, _unless_, answerOf}
+use Rattle.frame.specs.Layout.{bodyOctets, encode, zeroPad}
+use Rattle.frame.specs.Range.{Valid}
+use Rattle.frame.specs.declared.Body.the-variants.{Report}
+use Rattle.frame.specs.declared.Message.{Message}
+use Rattle.frame.specs.declared.Reading.{Reading}
+use Rattle.frame.specs.declared.Reply.{Reply}
+use Rattle.frame.specs.declared.Reply.the-variants.{Done, Size, Kind, Opcode, Range}
+
+abbrev pub oneOf : ℕ → List ℕ → Bool
+oneOf f [] = false
+oneOf f (x ∷ xs) = eqb f x || oneOf f xs
+
+-- GATE: f is the first octet; bits 0 to 2 number of grants, 0 to 4; bit 3 discovery, which has exactly one grant;
+-- a force bit for an absent grant is out of range, so with n grants no bit from bit n + 4 on is set
+unfoldable pub gateInRange : ℕ → Bool
+gateInRange f =
+    let clear = eqb (f / 2 ^ (f % 8 + 4)) 0 in
+    cond (eqb (f / 8 % 2) 1) (eqb (f % 8) 1 && clear) (leb (f % 8) 4 && clear)
+
+-- a body: the fields that not every value suits
+unfoldable pub bodyInRange : ℕ → List ℕ → Bool
+bodyInRange opcode l =
+    -- GATE
+    cond (eqb opcode 2) (gateInRange (fieldOf l 20 1))
+    -- REPORT: number of queue sets; here only 0
+    (cond (eqb opcode 3) (oneOf (fieldOf l 20 1) (0 ∷ []))
+    -- REGISTER_REQ: flag (1 register, 3 deregister)
+    (cond (eqb opcode 4) (oneOf (fieldOf l 20 1) (1 ∷ 3 ∷ []))
+    -- REGISTER: flag (1 reregister, 2 deregister, 3 ack, 4 nack), after the port
+    (cond (eqb opcode 5) (oneOf (fieldOf l 22 1) (1 ∷ 2 ∷ 3 ∷ 4 ∷ []))
+    -- REGISTER_ACK: flag (0 nack, 1 ack)
+    (oneOf (fieldOf l 20 1) (0 ∷ 1 ∷ [])))))
+
+abbrev pub readingTests : List ℕ → List Test
+readingTests l =
+    Size unless eqb (length l) 60
+    ∷ Kind unless eqb (fieldOf l 12 2) 0x8808
+    ∷ Opcode unless (leb 2 (fieldOf l 14 2) && leb (fieldOf l 14 2) 6)
+    ∷ Range unless bodyInRange (fieldOf l 14 2) l
+    ∷ []
+
+-- a frame carries a message: with its pad zeroed, it is what the layout has for the message
+pub record Carries (l : List ℕ) (m : Message) : Type 0 where
+  pub valid : Valid m
+  pub octets : zeroPad (20 + length (bodyOctets (m .body))) l ≡ encode m
+
+-- on refusal the message is the blank one
+abbrev pub refusal : Reply → Reading
+refusal r =
+    record {
+      reply = r;
+      message = record { destination = record { 0 = 0 }; source = record { 0 = 0 }; timestamp = record { 0 = 0 }; body = Report };
+    }
+
+-- r is the answer to l
+pub data Reads (l : List ℕ) (r : Reading) : Type 0 where
+  taken : answerOf (readingTests l) ≡ Done → r .reply ≡ Done → Carries l (r .message) → Reads l r
+  refused : (answerOf (readingTests l) ≡ Done → ⊥) → r ≡ refusal (answerOf (readingTests l)) → Reads l r

@@ -1,0 +1,19 @@
+-- Every promise of this crate settles the whole answer.
+-- Assumes nothing.
+use mathlib.Core.Path.{sym, _∙_}
+use Rattle.laws.specs.Settles.{Settles}
+use Rattle.range.proofs.address.Kinds as address-kinds
+use Rattle.range.proofs.address.Reads as address
+use Rattle.range.proofs.length.Kinds as length-kinds
+use Rattle.range.proofs.length.Reads as length
+use Rattle.range.proofs.message.Kinds as message-kinds
+use Rattle.range.proofs.message.Reads as message
+
+pub address-settles : Settles 0 address-kinds.ps address-kinds.r address.Post
+address-settles κs a e x y p q = p ∙ sym q
+
+pub length-settles : Settles 0 length-kinds.ps length-kinds.r length.Post
+length-settles κs a e x y p q = p ∙ sym q
+
+pub message-settles : Settles 0 message-kinds.ps message-kinds.r message.Post
+message-settles κs a e x y p q = p ∙ sym q

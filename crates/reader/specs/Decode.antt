@@ -1,0 +1,108 @@
+-- What the reader makes of sixty octets: what stands where, and the tests in their order. That this is document 01's table and its
+-- layout is shown of it in the crate `roundtrip`.
+-- Assumes nothing.
+use Prim.Native.Nat.{ℕ, _+_, _/_, _%_}
+use mathlib.Core.Bool.{Bool, cond, _&&_}
+use mathlib.Core.List.{List, [], _∷_}
+use lib.Dec.{eqb, leb}
+use lib.ListN.{length, take}
+use Rattle.octets.specs.Octets.{fieldOf}
+use Rattle.frame.specs.Reading.{bodyInRange, refusal}
+use Rattle.clock.specs.declared.Quanta.{Quanta}
+use Rattle.frame.specs.declared.Grant.{Grant}
+use Rattle.frame.specs.declared.Grants.{Grants}
+use Rattle.frame.specs.declared.Grants.the-variants.{None, One, Two, Three, Four}
+use Rattle.frame.specs.declared.RegisterReqFlag.{RegisterReqFlag}
+use Rattle.frame.specs.declared.RegisterFlag.{RegisterFlag}
+use Rattle.frame.specs.declared.RegisterAckFlag.{RegisterAckFlag}
+use Rattle.frame.specs.declared.Body.{Body}
+use Rattle.frame.specs.declared.Body.the-variants.{Gate, Discovery, Report, RegisterReq, Register, RegisterAck}
+use Rattle.frame.specs.declared.Message.{Message}
+use Rattle.frame.specs.declared.Reading.{Reading}
+use Rattle.frame.specs.declared.Reply.the-variants.{Done, Size, Kind, Opcode, Range}
+
+-- the bit of the octet f that counts p
+abbrev pub bit : ℕ → ℕ → Bool
+bit f p = eqb (f / p % 2) 1
+
+-- a length or a sync time
+abbrev pub quantaAt : List ℕ → ℕ → Quanta
+quantaAt l a = record { 0 = fieldOf l a 2 }
+
+unfoldable pub grantAt : List ℕ → ℕ → Bool → Grant
+grantAt l a force = record { start = record { 0 = fieldOf l a 4 }; length = quantaAt l (a + 4); force = force }
+
+-- at most four grants
+abbrev pub few : List Grant → Grants
+few [] = None
+few (a ∷ []) = One a
+few (a ∷ b ∷ []) = Two a b
+few (a ∷ b ∷ c ∷ []) = Three a b c
+few (a ∷ b ∷ c ∷ d ∷ _) = Four a b c d
+
+-- a GATE whose first octet is f: a, b, c and d stand where its grants may, and sync where its sync time may
+unfoldable pub gateOf : ℕ → Grant → Grant → Grant → Grant → Quanta → Body
+gateOf f a b c d sync = cond (bit f 8) (Discovery a sync) (Gate (few (take (f % 8) (a ∷ b ∷ c ∷ d ∷ []))))
+
+unfoldable pub gateAt : List ℕ → Body
+gateAt l =
+    let f = fieldOf l 20 1 in
+    gateOf f
+    (grantAt l 21 (bit f 16))
+    (grantAt l 27 (bit f 32))
+    (grantAt l 33 (bit f 64))
+    (grantAt l 39 (bit f 128))
+    (quantaAt l 27)
+
+-- the flags, of numbers in range
+unfoldable pub registerReqFlagOf : ℕ → RegisterReqFlag
+registerReqFlagOf f = cond (eqb f 1) RegisterReqFlag.Register RegisterReqFlag.Deregister
+
+unfoldable pub registerFlagOf : ℕ → RegisterFlag
+registerFlagOf f =
+    cond (eqb f 1) RegisterFlag.Reregister
+    (cond (eqb f 2) RegisterFlag.Deregister
+    (cond (eqb f 3) RegisterFlag.Ack
+    RegisterFlag.Nack))
+
+unfoldable pub registerAckFlagOf : ℕ → RegisterAckFlag
+registerAckFlagOf f = cond (eqb f 0) RegisterAckFlag.Nack RegisterAckFlag.Ack
+
+unfoldable pub registerReqAt : List ℕ → Body
+registerReqAt l = RegisterReq (registerReqFlagOf (fieldOf l 20 1)) (fieldOf l 21 1)
+
+unfoldable pub registerAt : List ℕ → Body
+registerAt l = Register (fieldOf l 20 2) (registerFlagOf (fieldOf l 22 1)) (quantaAt l 23) (fieldOf l 25 1)
+
+unfoldable pub registerAckAt : List ℕ → Body
+registerAckAt l = RegisterAck (registerAckFlagOf (fieldOf l 20 1)) (fieldOf l 21 2) (quantaAt l 23)
+
+-- the body of a frame with a known opcode
+unfoldable pub bodyAt : ℕ → List ℕ → Body
+bodyAt opcode l =
+    cond (eqb opcode 2) (gateAt l)
+    (cond (eqb opcode 3) Report
+    (cond (eqb opcode 4) (registerReqAt l)
+    (cond (eqb opcode 5) (registerAt l)
+    (registerAckAt l))))
+
+unfoldable pub messageAt : List ℕ → Message
+messageAt l =
+    record {
+      destination = record { 0 = fieldOf l 0 6 };
+      source = record { 0 = fieldOf l 6 6 };
+      timestamp = record { 0 = fieldOf l 16 4 };
+      body = bodyAt (fieldOf l 14 2) l;
+    }
+
+unfoldable pub readControl : List ℕ → Reading
+readControl l =
+    cond (leb 2 (fieldOf l 14 2) && leb (fieldOf l 14 2) 6)
+    (cond (bodyInRange (fieldOf l 14 2) l) (record { reply = Done; message = messageAt l }) (refusal Range))
+    (refusal Opcode)
+
+unfoldable pub readOf : List ℕ → Reading
+readOf l =
+    cond (eqb (length l) 60)
+    (cond (eqb (fieldOf l 12 2) 0x8808) (readControl l) (refusal Kind))
+    (refusal Size)

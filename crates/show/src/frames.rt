@@ -1,0 +1,150 @@
+// The reader's answer to a frame, and the writer's to what was read.
+ghost use Prim.Native.Nat.{_*_, _≤_};
+ghost use lib.ListN.{length};
+use crate::hex;
+use crate::out;
+use crate::words;
+use frame::Body;
+use frame::Grant;
+use frame::Grants;
+use frame::Message;
+use frame::Reply;
+
+const MOST_OCTETS: usize = 256;
+
+fn show_grant(g: Grant) {
+    let start = g.start;
+    let length = g.length;
+    out::number(start.0 as u64);
+    out::number(length.0 as u64);
+    if g.force {
+        out::number(1);
+    } else {
+        out::number(0);
+    }
+}
+
+fn show_grants(g: Grants) {
+    match g {
+        Grants::None => out::number(0),
+        Grants::One(a) => {
+            out::number(1);
+            show_grant(a);
+        }
+        Grants::Two(a, b) => {
+            out::number(2);
+            show_grant(a);
+            show_grant(b);
+        }
+        Grants::Three(a, b, c) => {
+            out::number(3);
+            show_grant(a);
+            show_grant(b);
+            show_grant(c);
+        }
+        Grants::Four(a, b, c, d) => {
+            out::number(4);
+            show_grant(a);
+            show_grant(b);
+            show_grant(c);
+            show_grant(d);
+        }
+    }
+}
+
+fn show_body(body: Body) {
+    match body {
+        Body::Gate(grants) => {
+            out::text(b" gate");
+            show_grants(grants);
+        }
+        Body::Discovery { grant, sync } => {
+            out::text(b" discovery");
+            show_grant(grant);
+            out::number(sync.0 as u64);
+        }
+        Body::Report => out::text(b" report"),
+        Body::RegisterReq { flag, pending } => {
+            out::text(b" register_req");
+            out::number(flag.number() as u64);
+            out::number(pending as u64);
+        }
+        Body::Register {
+            port,
+            flag,
+            sync,
+            pending,
+        } => {
+            out::text(b" register");
+            out::number(port as u64);
+            out::number(flag.number() as u64);
+            out::number(sync.0 as u64);
+            out::number(pending as u64);
+        }
+        Body::RegisterAck { flag, port, sync } => {
+            out::text(b" register_ack");
+            out::number(flag.number() as u64);
+            out::number(port as u64);
+            out::number(sync.0 as u64);
+        }
+    }
+}
+
+fn show_message(m: Message) {
+    let destination = m.destination;
+    let source = m.source;
+    let timestamp = m.timestamp;
+    let body = m.body;
+    out::text(b" to ");
+    out::address(destination.0);
+    out::text(b" from ");
+    out::address(source.0);
+    out::text(b" stamp");
+    out::number(timestamp.0 as u64);
+    show_body(body);
+}
+
+// The frame that carries the message: what was read, with its pad zeroed.
+fn show_frame(m: Message) {
+    let writing = writer::write(m);
+    let octets = writing.octets;
+    out::text(b" frame ");
+    hex::show(&octets);
+}
+
+fn show_reading(octets: &[u8]) {
+    let reading = reader::read(octets);
+    let reply = reading.reply;
+    out::text(b"read");
+    out::number(reply.number() as u64);
+    if let Reply::Done = reply {
+        let message = reading.message;
+        show_message(message);
+        show_frame(message);
+    }
+}
+
+// The answer to the frame that the digits spell, put into the octets lent; false where they spell none.
+fn spelt(digits: &[u8], octets: &mut [u8]) -> bool
+    requires { ⌜ 2 * length (now octets) ≤ length (now digits) ⌝ }
+{
+    if !hex::put(digits, octets) {
+        return false;
+    }
+    show_reading(octets);
+    true
+}
+
+// The answer to a line that is a frame, `-` for one of no octets; false where it is none.
+pub fn answered(line: &[u8]) -> bool {
+    if words::same(line, b"-") {
+        show_reading(b"");
+        return true;
+    }
+    let n = line.len() / 2;
+    if line.len() % 2 != 0 || n > MOST_OCTETS {
+        return false;
+    }
+    let mut space = [0u8; MOST_OCTETS];
+    spelt(line, &mut space[0..n])
+}
