@@ -12,6 +12,8 @@ use Rattle.clock.proofs.Count.nearer.Kinds as nearer-kinds
 use Rattle.clock.proofs.Count.nearer.Reads as nearer-reads
 use Rattle.clock.proofs.Count.reach.Kinds as reach-kinds
 use Rattle.clock.proofs.Count.reach.Reads as reach-reads
+use Rattle.clock.proofs.Count.drift.Kinds as drift-kinds
+use Rattle.clock.proofs.Count.drift.Reads as drift-reads
 use Rattle.clock.proofs.Count.round_trip.Kinds as round-trip-kinds
 use Rattle.clock.proofs.Count.round_trip.Reads as round-trip-reads
 use Rattle.clock.proofs.Timer.stopped.Kinds as stopped-kinds
@@ -41,6 +43,9 @@ nearer-settles κs a e x y p q = p ∙ sym q
 
 pub reach-settles : Settles 0 reach-kinds.ps reach-kinds.r reach-reads.Post
 reach-settles κs a e x y p q = p ∙ sym q
+
+pub drift-settles : Settles 0 drift-kinds.ps drift-kinds.r drift-reads.Post
+drift-settles κs a e x y p q = p ∙ sym q
 
 pub round-trip-settles : Settles 0 round-trip-kinds.ps round-trip-kinds.r round-trip-reads.Post
 round-trip-settles κs a e x y p q = p ∙ sym q

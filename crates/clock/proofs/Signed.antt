@@ -7,7 +7,7 @@ use native.Mathlib.Omega.{arith}
 use lib.Dec.{T}
 use lib.IntN.{ℤ, pos, negsuc, _+ℤ_, _-ℤ_, natAbs}
 use lib.Signed.{nonNeg, ltZ}
-use mir.Syntax.{w32, w64}
+use mir.Syntax.{Width, w32, w64}
 use mir.Val.{SFits, Fits, toZ, ofZ}
 use mir.ValLaws.{toZ-pos, toZ-ofZ}
 use borrow.Author.Tests.{lt-ltb, le-ltb}
@@ -44,14 +44,14 @@ module _ (a b d : ℕ) (e : d ≡ gap a b) where
       ∙ sym (distance-far a b (omega arith))
 
 -- a signed value as a local holds it, which the code reads from its bits
-abbrev held : ℤ → ℤ
+abbrev pub held : ℤ → ℤ
 held z = toZ w64 (ofZ w64 z)
 
--- what the cast to an unsigned value of 32 bits asks
-abbrev Casts : ℤ → Type 0
-Casts z = T (nonNeg z) × Fits w32 (natAbs z)
+-- what the cast to an unsigned value asks, by its width
+abbrev pub Casts : Width → ℤ → Type 0
+Casts w z = T (nonNeg z) × Fits w (natAbs z)
 
-casts : (z : ℤ) (a b : ℕ) → z ≡ pos (gap a b) → Casts z
+casts : (z : ℤ) (a b : ℕ) → z ≡ pos (gap a b) → Casts w32 z
 casts z a b e = rw e (tt, record { fits = gap-below a b })
 
 -- a distance in a local after its test against 0: from 0 on it is the gap, below 0 it is with a turn added
@@ -67,7 +67,7 @@ module _ (a b : ℕ) (z : ℤ) (e : z ≡ distance a b) where
     pub near-gap : held z ≡ pos (gap a b)
     near-gap = read ∙ distance-near a b near
 
-    pub near-casts : Casts (held z)
+    pub near-casts : Casts w32 (held z)
     near-casts = casts _ a b near-gap
 
   module _ (h : ltZ (held z) (pos 0) ≡ true) where
@@ -86,5 +86,5 @@ module _ (a b : ℕ) (z : ℤ) (e : z ≡ distance a b) where
     pub far-gap : held (held z +ℤ pos (2 ^ 32)) ≡ pos (gap a b)
     far-gap = toZ-ofZ w64 _ far-fits ∙ turned
 
-    pub far-casts : Casts (held (held z +ℤ pos (2 ^ 32)))
+    pub far-casts : Casts w32 (held (held z +ℤ pos (2 ^ 32)))
     far-casts = casts _ a b far-gap

@@ -12,7 +12,7 @@ use borrow.Fn.Kinds.{PK, RK, Out, Dens, resT, endedOf}
 use denote.Triple.Clauses.{AtExit}
 use Rattle.clock.specs.Counts.{distance, isPast}
 use Rattle.clock.specs.Laws.{distance-same, isPast-near}
-use Rattle.clock.specs.Numbers.{furthest, quantaOf, needed, serves, randomWait}
+use Rattle.clock.specs.Numbers.{startInRange, quantaOf, needed, serves, randomWait}
 use Rattle.clock.proofs.Count.distance.Kinds as distance-kinds
 use Rattle.clock.proofs.Count.distance.Reads as distance-reads
 use Rattle.clock.proofs.Count.is_past.Kinds as is-past-kinds
@@ -50,11 +50,11 @@ pub record Sums : Type 0 where
   pub nine : randomWait 101 174 0 ≡ 0
   pub ten :
       (now start : ℕ) →
-      (distance now start ≡ pos 62500000 → furthest now start ≡ true)
-      × (distance now start ≡ pos 62500001 → furthest now start ≡ false)
+      (distance now start ≡ pos 62500000 → startInRange now start ≡ true)
+      × (distance now start ≡ pos 62500001 → startInRange now start ≡ false)
 
 pub sums : Sums
-unfolding distance isPast furthest
+unfolding distance isPast startInRange
 sums =
     record {
       one = λ y e p. p;

@@ -29,6 +29,10 @@ distance from to = signed (gap from to)
 unfoldable pub isPast : ℕ → ℕ → Bool
 isPast now at = ltZ (distance now at) (pos 0)
 
+-- the box's drift is the distance from its own count to the timestamp
+abbrev pub driftOf : ℕ → ℕ → ℤ
+driftOf count timestamp = distance count timestamp
+
 -- the head's round trip is (count - timestamp) modulo 2 ^ 32
 abbrev pub roundTrip : ℕ → ℕ → ℕ
 roundTrip count timestamp = gap timestamp count

@@ -13,7 +13,7 @@ use Rattle.clock.specs.declared.Reach.{Reach}
 use Rattle.clock.specs.declared.Reach.the-variants.{Past, Ahead}
 use Rattle.clock.specs.declared.Timer.{Timer}
 use Rattle.clock.specs.Counts.{gap, distance, isPast, nearer, reach}
-use Rattle.clock.specs.Numbers.{furthest, quantaOf}
+use Rattle.clock.specs.Numbers.{furthest, startInRange, quantaOf}
 use Rattle.clock.specs.Timers.{runs, ticked}
 
 -- what wraps back to a when b is added is the gap from b to a
@@ -95,23 +95,23 @@ module _ (a b : ℕ) (ha : a < 2 ^ 32) (hb : b < 2 ^ 32) where
       omega arith
 
 -- a start that may be taken, by its gap
-pub furthest-gap : (now start : ℕ) → furthest now start ≡ leb (gap now start) 62500000
-unfolding furthest
-furthest-gap now start =
+pub start-gap : (now start : ℕ) → startInRange now start ≡ leb (gap now start) furthest
+unfolding startInRange
+start-gap now start =
     near-or-far now start
     (λ h. rw (distance-near now start h, le-leb 0 (gap now start) (omega arith)))
-    (λ h. rw (distance-far now start h, lt-leb (gap now start) 62500000 (omega arith)))
+    (λ h. rw (distance-far now start h, lt-leb (gap now start) furthest (omega arith)))
 
 -- and by where it stands, as the code tells it
-abbrev pub taken : Reach → Bool
-taken (Ahead wait) = leb (wait .0) 62500000
-taken Past = false
+abbrev pub reachInRange : Reach → Bool
+reachInRange (Ahead wait) = leb (wait .0) furthest
+reachInRange Past = false
 
-pub furthest-reach : (now start : ℕ) → furthest now start ≡ taken (reach now start)
-furthest-reach now start =
+pub start-reach : (now start : ℕ) → startInRange now start ≡ reachInRange (reach now start)
+start-reach now start =
     near-or-far now start
-    (λ h. rw (furthest-gap, reach-near now start h))
-    (λ h. rw (furthest-gap, reach-far now start h) (lt-leb (gap now start) 62500000 (omega arith)))
+    (λ h. rw (start-gap, reach-near now start h))
+    (λ h. rw (start-gap, reach-far now start h) (lt-leb (gap now start) furthest (omega arith)))
 
 -- rounded up: twice the quanta are enough, and by less than two
 pub quanta-up : (n : ℕ) → (n + 24 ≤ 2 * quantaOf n) × (2 * quantaOf n < n + 24 + 2)

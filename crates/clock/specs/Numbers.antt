@@ -7,17 +7,37 @@ use lib.IntN.{pos}
 use lib.Signed.{leZ}
 use Rattle.clock.specs.Counts.{distance}
 
--- furthest grant start: the start's distance from now is in 0 .. 62,500,000
-unfoldable pub furthest : ℕ → ℕ → Bool
-furthest now start = leZ (pos 0) (distance now start) && leZ (distance now start) (pos 62500000)
+-- laser-on time 32
+abbrev pub laserOn : ℕ
+laserOn = 32
+
+-- watchdog (omp_timer) 62,500,000 ticks
+abbrev pub watchdog : ℕ
+watchdog = 62500000
+
+-- periodic GATE, periodic REPORT: 3,125,000 each
+abbrev pub periodic : ℕ
+periodic = 3125000
+
+-- wait for REGISTER, wait for REGISTER_ACK: 3,125,000 each
+abbrev pub wait : ℕ
+wait = 3125000
+
+-- furthest grant start: distance 62,500,000
+abbrev pub furthest : ℕ
+furthest = 62500000
+
+-- a start is in range if its distance from now is in 0 .. 62,500,000
+unfoldable pub startInRange : ℕ → ℕ → Bool
+startInRange now start = leZ (pos 0) (distance now start) && leZ (distance now start) (pos furthest)
 
 -- a frame of n octets needs (n + 24) / 2 quanta, rounded up: one is added, since `/` rounds down
 abbrev pub quantaOf : ℕ → ℕ
 quantaOf n = (n + 24 + 1) / 2
 
--- needed length: laser-on time, sync, and the 42 of a frame of 60 octets
+-- needed length: laser-on time, sync, and a frame of 60 octets, 42
 abbrev pub needed : ℕ → ℕ
-needed sync = 32 + sync + 42
+needed sync = laserOn + sync + quantaOf 60
 
 -- a length serves when it is not below the needed one
 abbrev pub serves : ℕ → ℕ → Bool

@@ -1,6 +1,6 @@
 // The clock: counts, lengths and timers. Document 01, "Counts and lengths" and "Numbers".
 ghost use mathlib.Core.Path.{_≡_};
-ghost use Rattle.clock.specs.Counts.{nextOf, distance, isPast, nearer, reach, roundTrip};
+ghost use Rattle.clock.specs.Counts.{nextOf, distance, isPast, nearer, reach, driftOf, roundTrip};
 ghost use Rattle.clock.specs.Timers.{off, runs, ticked};
 
 // A reading of the 32-bit counter.
@@ -73,6 +73,13 @@ impl Count {
             return Reach::Past;
         }
         Reach::Ahead(Quanta(d as u32))
+    }
+
+    // The box's drift: how far the timestamp is from its own count.
+    pub fn drift(self, timestamp: Count) -> i64
+        ensures { λ r. ⌜ r ≡ driftOf (self .0) (timestamp .0) ⌝ }
+    {
+        self.distance(timestamp)
     }
 
     // The head's round trip: this count less the timestamp, modulo 2^32.

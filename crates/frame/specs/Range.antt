@@ -1,6 +1,6 @@
 -- Document 01, "Frames": what is in range. A number is as long as its field; a length is sixteen bits on the wire.
 -- Assumes nothing.
-use Prim.Native.Nat.{ℕ, _^_, _<_}
+use Prim.Native.Nat.{_^_, _<_}
 use mathlib.Core.List.{List, [], _∷_}
 use Rattle.frame.specs.Layout.{listed}
 use Rattle.frame.specs.declared.Grant.{Grant}

@@ -3,8 +3,7 @@
 use Prim.Native.Nat.{ℕ, zero, suc, _+_, _-_, _*_, _/_, _%_, _^_, _≤_, _<_}
 use mathlib.Core.Path.{_≡_, refl, sym, ap, _∙_}
 use mathlib.Core.List.{List, [], _∷_, _++_, append-nil, append-assoc}
-use native.Mathlib.Nat.{pow-suc, pow-le-pow-right, add-zero, zero-add, not-suc-le-zero, le-refl}
-use native.Mathlib.Numerals.{add-one}
+use native.Mathlib.Nat.{add-mul, mul-assoc, mul-comm, add-assoc, pow-suc, pow-le-pow-right, add-zero, zero-add, not-suc-le-zero, le-refl}
 use native.Mathlib.Omega.{arith}
 use lib.ListN.{length, getD, take, drop, set, length-take, length-drop}
 use lib.Seq.{drop-cons, lt-length-set, getD-set-same, drop-set-lt, getD-drop, getD-take, take-add, drop-drop}
@@ -59,6 +58,29 @@ pub onto-append : (n x : ℕ) (s t : List ℕ) → onto n x (s ++ t) ≡ onto n 
 unfolding onto
 onto-append zero x s t = refl
 onto-append (suc n) x s t = onto-append n (x / 256) (x % 256 ∷ s) t
+
+-- the last octet is the number modulo 256, and those before it are the octets of the rest
+pub bytes-last : (n x : ℕ) → bytes (suc n) x ≡ bytes n (x / 256) ++ (x % 256 ∷ [])
+unfolding onto
+bytes-last n x = onto-append n (x / 256) [] (x % 256 ∷ [])
+
+spread : (v b w r : ℕ) → (v * 256 + b) * w + r ≡ v * (w * 256) + ((0 * 256 + b) * w + r)
+spread v b w r =
+    let one : (v * 256 + b) * w ≡ v * 256 * w + b * w = add-mul (v * 256) b w in
+    let two : v * 256 * w ≡ v * (w * 256) = mul-assoc v 256 w ∙ ap (λ (x : ℕ). v * x) (mul-comm 256 w) in
+    let none : 0 * 256 + b ≡ b = omega arith in
+    rw (one, two, none) (add-assoc (v * (w * 256)) (b * w) r)
+
+value-from : (l : List ℕ) (v : ℕ) → valueFrom v l ≡ v * 256 ^ length l + value l
+unfolding valueFrom
+value-from [] v = omega arith
+value-from (b ∷ l) v =
+    value-from l (v * 256 + b) ∙ rw (pow-suc, value-from l (0 * 256 + b)) (spread v b (256 ^ length l) (value l))
+
+-- the first octet counts 256 to the power of how many follow
+pub value-first : (b : ℕ) (l : List ℕ) → value (b ∷ l) ≡ b * 256 ^ length l + value l
+unfolding valueFrom
+value-first b l = value-from l (0 * 256 + b) ∙ rw (zero-add)
 
 pub length-onto : (n x : ℕ) (t : List ℕ) → length (onto n x t) ≡ n + length t
 unfolding onto

@@ -42,10 +42,7 @@ fitsMessage m = fitsAddress (m .destination) && fitsAddress (m .source) && fitsB
 
 -- two tests at once
 both : {a b : Bool} → a ≡ true → b ≡ true → (a && b) ≡ true
-both p q = rw (p, q)
-
-parts : (a b : Bool) → (a && b) ≡ true → (a ≡ true) × (b ≡ true)
-parts a b = and-eq-true-iff a b .0
+both {a} {b} p q = and-eq-true-iff a b .1 (p, q)
 
 -- a length or sync time that passes the test has its two octets, and back
 short : (n : ℕ) → leb n 0xFFFF ≡ true → n < 2 ^ 16
@@ -58,7 +55,7 @@ all-fit : (gs : List Grant) (t : Bool) → GrantsTyped gs → fitsAll t gs ≡ t
 all-fit [] t h e = (e, tt)
 all-fit (g ∷ gs) t h e =
     let rest = all-fit gs (t && fitsGrant g) (h .1) e in
-    let here = parts t (fitsGrant g) (rest .0) in
+    let here = and-eq-true-iff t (fitsGrant g) .0 (rest .0) in
     (here .0, ((h .0, short (g .length .0) (here .1)), rest .1))
 
 fit-all : (gs : List Grant) (t : Bool) → t ≡ true → GrantsFit gs → fitsAll t gs ≡ true
@@ -68,7 +65,7 @@ fit-all (g ∷ gs) t e h = fit-all gs (t && fitsGrant g) (both e (short-of (g .l
 body-fit : (b : Body) → BodyTyped b → fitsBody b ≡ true → BodyFits b
 body-fit (Gate g) h e = all-fit (listed g) true h e .1
 body-fit (Discovery g sync) h e =
-    let p = parts (fitsGrant g) (leb (sync .0) 0xFFFF) e in
+    let p = and-eq-true-iff (fitsGrant g) (leb (sync .0) 0xFFFF) .0 e in
     ((h, short (g .length .0) (p .0)), short (sync .0) (p .1))
 body-fit Report h e = tt
 body-fit (RegisterReq flag pending) h e = h
@@ -87,8 +84,8 @@ fit-body (RegisterAck flag port sync) h = short-of (sync .0) (h .1)
 pub valid-of : (m : Message) → Typed m → fitsMessage m ≡ true → Valid m
 unfolding fitsMessage
 valid-of m h e =
-    let p = parts (leb (m .destination .0) 0xFFFFFFFFFFFF && leb (m .source .0) 0xFFFFFFFFFFFF) (fitsBody (m .body)) e in
-    let q = parts (leb (m .destination .0) 0xFFFFFFFFFFFF) (leb (m .source .0) 0xFFFFFFFFFFFF) (p .0) in
+    let p = and-eq-true-iff (leb (m .destination .0) 0xFFFFFFFFFFFF && leb (m .source .0) 0xFFFFFFFFFFFF) (fitsBody (m .body)) .0 e in
+    let q = and-eq-true-iff (leb (m .destination .0) 0xFFFFFFFFFFFF) (leb (m .source .0) 0xFFFFFFFFFFFF) .0 (p .0) in
     record {
       destination = omega (arith, leb-true (m .destination .0) 0xFFFFFFFFFFFF (q .0));
       source = omega (arith, leb-true (m .source .0) 0xFFFFFFFFFFFF (q .1));

@@ -176,7 +176,6 @@ fn body_in_range(s: &[u8], opcode: u64) -> bool
     ensures { λ r. ⌜ r ≡ bodyInRange opcode (now (s .entry)) ⌝ }
 {
     let first = field(s, 20, 1);
-    let third = field(s, 22, 1);
     if opcode == Body::GATE {
         return gate_in_range(first);
     }
@@ -187,7 +186,8 @@ fn body_in_range(s: &[u8], opcode: u64) -> bool
         return (first == 1) | (first == 3);
     }
     if opcode == Body::REGISTER {
-        return (third == 1) | (third == 2) | (third == 3) | (third == 4);
+        let flag = field(s, 22, 1);
+        return (flag == 1) | (flag == 2) | (flag == 3) | (flag == 4);
     }
     (first == 0) | (first == 1)
 }

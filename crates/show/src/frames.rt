@@ -4,10 +4,14 @@ ghost use lib.ListN.{length};
 use crate::hex;
 use crate::out;
 use crate::words;
+use clock::Count;
+use clock::Quanta;
+use frame::Address;
 use frame::Body;
 use frame::Grant;
 use frame::Grants;
 use frame::Message;
+use frame::RegisterAckFlag;
 use frame::Reply;
 
 const MOST_OCTETS: usize = 256;
@@ -112,6 +116,48 @@ fn show_frame(m: Message) {
     hex::show(&octets);
 }
 
+// What the writer answers to a message that is out of range.
+fn show_refused(destination: Address, source: Address, body: Body) {
+    let m = Message {
+        destination,
+        source,
+        timestamp: Count(1),
+        body,
+    };
+    let writing = writer::write(m);
+    let reply = writing.reply;
+    out::text(b"write");
+    out::number(reply.number() as u64);
+    show_frame(m);
+}
+
+fn show_out_of_range() {
+    let address = Address(2);
+    let too_large = Address(0x1000000000000);
+    let too_long = Quanta(0x10000);
+    let grant = Grant {
+        start: Count(3),
+        length: too_long,
+        force: false,
+    };
+    show_refused(too_large, address, Body::Report);
+    out::text(b"\n");
+    show_refused(address, too_large, Body::Report);
+    out::text(b"\n");
+    show_refused(address, address, Body::Gate(Grants::One(grant)));
+    out::text(b"\n");
+    let flag = RegisterAckFlag::Ack;
+    show_refused(
+        address,
+        address,
+        Body::RegisterAck {
+            flag,
+            port: 4,
+            sync: too_long,
+        },
+    );
+}
+
 fn show_reading(octets: &[u8]) {
     let reading = reader::read(octets);
     let reply = reading.reply;
@@ -135,8 +181,12 @@ fn spelt(digits: &[u8], octets: &mut [u8]) -> bool
     true
 }
 
-// The answer to a line that is a frame, `-` for one of no octets; false where it is none.
+// The answer to a line: a frame, `-` for one of no octets, or `write` for messages that have no frame; false where it is none.
 pub fn answered(line: &[u8]) -> bool {
+    if words::same(line, b"write") {
+        show_out_of_range();
+        return true;
+    }
     if words::same(line, b"-") {
         show_reading(b"");
         return true;

@@ -11,9 +11,9 @@ enum Octet {
 // What a digit stands for; 16 for any other octet.
 fn digit(c: u8) -> u8 {
     match c {
-        b'0'..=b'9' => c - 48,
-        b'A'..=b'F' => c - 55,
-        b'a'..=b'f' => c - 87,
+        b'0'..=b'9' => c - b'0',
+        b'A'..=b'F' => c - b'A' + 10,
+        b'a'..=b'f' => c - b'a' + 10,
         _ => 16,
     }
 }

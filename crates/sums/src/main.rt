@@ -1,4 +1,4 @@
-// Document 01, "Sums to check", 1 to 4, and timers: a line for each.
+// Document 01, "Numbers", "Sums to check" 1 to 4, and timers.
 use clock::Count;
 use clock::Quanta;
 use clock::Timer;
@@ -74,7 +74,26 @@ fn show_timer(setting: Quanta, ticks: u32) {
     text(b"\n");
 }
 
+fn show_length(q: Quanta) {
+    text(b" ");
+    number(q.0 as u64);
+}
+
+fn show_numbers() {
+    text(b"numbers");
+    show_length(Quanta::LASER_ON);
+    show_length(Timer::WATCHDOG);
+    show_length(Timer::PERIODIC);
+    show_length(Timer::WAIT);
+    show_length(Count::FURTHEST);
+    text(b"\n");
+}
+
 fn main() {
+    text(
+        b"# Numbers: laser-on time, watchdog, periodic GATE and REPORT, wait for REGISTER and REGISTER_ACK, furthest grant start\n",
+    );
+    show_numbers();
     text(b"# Sum 1: from 0xFFFFFFFB to 5; and back\n");
     show_distance(Count(0xFFFFFFFB), Count(5));
     show_distance(Count(5), Count(0xFFFFFFFB));

@@ -105,7 +105,7 @@ fn normal_octet(g: Grants) -> u8
     number(g) + 16 * force_bits(g)
 }
 
-// The first octet of a discovery GATE.
+// The first octet of a discovery GATE: one grant, and bit 3.
 fn discovery_octet(g: Grant) -> u8
     ensures { λ r. ⌜ r ≡ firstOctet true (g ∷ []) ⌝ }
 {

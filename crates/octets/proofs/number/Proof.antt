@@ -75,7 +75,7 @@ returns c =
     let b = c .before in
     let l = b .before .before .before .args .s .now in
     let all : b .loop .i ≡ length (take 8 l) = omega (arith, b .before .width .ensures) in
-    (rw (all, drop-length (take 8 l)) at (b .loop .inv .2), rw all at (b .loop .inv .1))
+    rw (all, drop-length (take 8 l)) at (b .loop .inv .2)
 
 pub number-spec : {M : Type 1} → statement M
 number-spec =

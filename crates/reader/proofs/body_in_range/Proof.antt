@@ -10,28 +10,18 @@ use Rattle.reader.proofs.body_in_range.Tie as tie
 field-requires : tie.Need-field-requires
 field-requires c κs = search needs
 
-field-requires-2 : tie.Need-field-requires-2
-field-requires-2 c κs = search needs
-
 gate-in-range-requires : tie.Need-gate-in-range-requires
 gate-in-range-requires c κs = search needs
 
 returns : tie.Need-returns
 unfolding bodyInRange
-returns c =
-    rw (
-      c .gate-in-range .ensures,
-      ← c .before .before .before .field .ensures .0,
-      ← c .before .before .field2 .ensures .0,
-      eq-eqb _ _ (c .before .if1 .taken),
-    )
+returns c = rw (c .gate-in-range .ensures, ← c .before .before .field .ensures .0, eq-eqb _ _ (c .before .if1 .taken))
 
 returns-2 : tie.Need-returns-2
 unfolding bodyInRange
 returns-2 c =
     rw (
-      ← c .before .before .before .field .ensures .0,
-      ← c .before .before .field2 .ensures .0,
+      ← c .before .before .field .ensures .0,
       ne-eqb _ _ (c .before .if1 .left),
       eq-eqb _ _ (c .if2 .taken),
     )
@@ -41,24 +31,26 @@ returns-3 : tie.Need-returns-3
 unfolding bodyInRange
 returns-3 c =
     rw (
-      ← c .before .before .before .before .field .ensures .0,
-      ← c .before .before .before .field2 .ensures .0,
+      ← c .before .before .before .field .ensures .0,
       ne-eqb _ _ (c .before .before .if1 .left),
       ne-eqb _ _ (c .before .if2 .left),
       eq-eqb _ _ (c .if3 .taken),
     )
     (simp or-false)
 
+field-requires-2 : tie.Need-field-requires-2
+field-requires-2 c κs = search needs
+
 returns-4 : tie.Need-returns-4
 unfolding bodyInRange
 returns-4 c =
     rw (
+      ← c .field2 .ensures .0,
       ← c .before .before .before .before .before .field .ensures .0,
-      ← c .before .before .before .before .field2 .ensures .0,
-      ne-eqb _ _ (c .before .before .before .if1 .left),
-      ne-eqb _ _ (c .before .before .if2 .left),
-      ne-eqb _ _ (c .before .if3 .left),
-      eq-eqb _ _ (c .if4 .taken),
+      ne-eqb _ _ (c .before .before .before .before .if1 .left),
+      ne-eqb _ _ (c .before .before .before .if2 .left),
+      ne-eqb _ _ (c .before .before .if3 .left),
+      eq-eqb _ _ (c .before .if4 .taken),
     )
     (simp (or-assoc, or-false))
 
@@ -66,8 +58,7 @@ returns-5 : tie.Need-returns-5
 unfolding bodyInRange
 returns-5 c =
     rw (
-      ← c .before .before .before .before .before .field .ensures .0,
-      ← c .before .before .before .before .field2 .ensures .0,
+      ← c .before .before .before .before .field .ensures .0,
       ne-eqb _ _ (c .before .before .before .if1 .left),
       ne-eqb _ _ (c .before .before .if2 .left),
       ne-eqb _ _ (c .before .if3 .left),
@@ -80,10 +71,10 @@ body-in-range-spec =
     tie.close
     (tie.spec
     field-requires
-    field-requires-2
     gate-in-range-requires
     returns
     returns-2
     returns-3
+    field-requires-2
     returns-4
     returns-5)

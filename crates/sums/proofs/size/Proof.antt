@@ -4,14 +4,14 @@ use Prim.Native.Nat.{ℕ, suc, _+_, _^_, _<_}
 use mathlib.Core.Path.{_≡_, _∙_, ap}
 use mathlib.Core.Bool.{true, false}
 use native.Mathlib.Omega.{arith}
-use lib.Dec.{T}
 use lib.IntN.{ℤ, pos, negsuc, _-ℤ_, natAbs}
-use lib.Signed.{nonNeg, ltZ}
+use lib.Signed.{ltZ}
 use mir.Syntax.{w64}
-use mir.Val.{SFits, Fits, toZ, ofZ}
+use mir.Val.{SFits, Fits}
 use mir.ValLaws.{toZ-ofZ}
 use borrow.Author.Needs.{needs}
 use borrow.Author.Tests.{le-ltb, ltb-true}
+use Rattle.clock.proofs.Signed.{held, Casts}
 use Rattle.sums.proofs.size.Statement.{statement}
 use Rattle.sums.proofs.size.Tie as tie
 
@@ -28,14 +28,6 @@ less-one : (z : ℤ) → ltZ z (pos 0) ≡ true → negsuc 0 -ℤ z ≡ pos (bel
 less-one (pos n) h = absurd (omega (arith, ltb-true n 0 h))
 less-one (negsuc k) h = rw (le-ltb (suc k) 1 (omega arith)) (ap pos (omega arith))
 
--- a signed value as a local holds it, which the code reads from its bits
-abbrev held : ℤ → ℤ
-held z = toZ w64 (ofZ w64 z)
-
--- what the cast to an unsigned value asks
-abbrev Casts : ℤ → Type 0
-Casts z = T (nonNeg z) × Fits w64 (natAbs z)
-
 module _ (z : ℤ) (f : SFits w64 z) where
   module _ (h : ltZ (held z) (pos 0) ≡ true) where
     is : negsuc 0 -ℤ held z ≡ pos (below z)
@@ -47,16 +39,16 @@ module _ (z : ℤ) (f : SFits w64 z) where
     reads : held (negsuc 0 -ℤ held z) ≡ pos (below z)
     reads = toZ-ofZ w64 _ fits ∙ is
 
-    casts : Casts (held (negsuc 0 -ℤ held z))
+    casts : Casts w64 (held (negsuc 0 -ℤ held z))
     casts = rw reads (tt, record { fits = omega (arith, small z f) })
 
     adds : Fits w64 (natAbs (held (negsuc 0 -ℤ held z)) + 1)
     adds = rw reads (record { fits = omega (arith, small z f) })
 
-  casts-ahead : ltZ (held z) (pos 0) ≡ false → Casts (held z)
+  casts-ahead : ltZ (held z) (pos 0) ≡ false → Casts w64 (held z)
   casts-ahead h = rw (toZ-ofZ w64 z f) (ahead z f (rw (toZ-ofZ w64 z f) at h))
     where
-      ahead : (z : ℤ) → SFits w64 z → ltZ z (pos 0) ≡ false → Casts z
+      ahead : (z : ℤ) → SFits w64 z → ltZ z (pos 0) ≡ false → Casts w64 z
       ahead (pos n) f h = (tt, record { fits = omega (arith, f .sfits) })
       ahead (negsuc k) f h = let z : _≡_ {A = ℕ} 0 1 = cc in absurd (omega arith)
 

@@ -6,14 +6,14 @@ use mathlib.Core.Bool.{Bool, true, false, cond, _&&_, true≢false}
 use mathlib.Core.List.{List, [], _∷_, _++_}
 use native.Mathlib.Omega.{arith}
 use lib.Dec.{leb}
-use lib.ListN.{length, take, drop, replicate, length-append, length-replicate}
+use lib.ListN.{length, drop, replicate, length-append, length-replicate}
 use Rattle.octets.specs.Octets.{onto, bytes, value, fieldOf}
 use Rattle.octets.specs.Laws.{value-bytes}
-use Rattle.frame.specs.Layout.{headerOf, listed, firstOctet, perGrant, gateOctets, registerReqFlag, registerFlag, registerAckFlag, opcodeOf, bodyOctets, encode}
+use Rattle.frame.specs.Layout.{headerOf, listed, firstOctet, perGrant, registerReqFlag, registerFlag, registerAckFlag, opcodeOf, bodyOctets, encode}
 use Rattle.frame.specs.Range.{GrantFits, GrantsFit, BodyFits, Valid}
 use Rattle.frame.specs.Reading.{oneOf, bodyInRange}
 use Rattle.reader.specs.Decode.{bit, grantAt, quantaAt, few, gateOf, gateAt, registerReqFlagOf, registerFlagOf, registerAckFlagOf, registerReqAt, registerAt, registerAckAt, bodyAt, messageAt, readControl, readOf}
-use Rattle.roundtrip.specs.Gate.{listed-few, listed-short, length-grants, four-from, take-from, reads-from, octet-number, octet-discovery, octet-force, octet-fits, octet-in-range}
+use Rattle.reader.proofs.Gate.{listed-few, listed-short, length-grants, four-from, take-from, reads-from, octet-number, octet-discovery, octet-force, octet-fits, octet-in-range}
 use Rattle.clock.specs.declared.Quanta.{Quanta}
 use Rattle.frame.specs.declared.Grant.{Grant}
 use Rattle.frame.specs.declared.Grants.{Grants}

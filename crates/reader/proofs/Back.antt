@@ -2,29 +2,28 @@
 -- Assumes nothing.
 use Prim.Native.Nat.{ℕ, _+_, _-_, _*_, _/_, _%_, _^_, _≤_, _<_}
 use mathlib.Core.Path.{_≡_, refl, sym, ap, _∙_}
-use mathlib.Core.Bool.{Bool, true, false, _&&_, and-eq-true-iff, or-false}
+use mathlib.Core.Bool.{true, false, _&&_, and-eq-true-iff, or-false}
 use mathlib.Core.List.{List, [], _∷_, _++_, append-assoc}
-use mathlib.Core.Logic.{_⊎_, ⊎-elim}
 use native.Mathlib.Omega.{arith}
 use borrow.Author.Tests.{eqb-true, eqb-false, leb-true}
 use lib.Dec.{eqb, leb}
 use lib.ListN.{length, take, drop, replicate, take-append-drop, length-append, length-drop, length-take, length-replicate}
 use lib.Seq.{take-at}
-use Rattle.laws.specs.Cases.{either, decided}
+use Rattle.laws.specs.Cases.{either}
 use Rattle.octets.specs.Octets.{onto, bytes, fieldOf, Octets}
 use Rattle.octets.specs.Laws.{length-part, bytes-field, field-below, join, join-front}
 use Rattle.frame.specs.Card.{numberOf}
-use Rattle.frame.specs.Layout.{headerOf, frameOf, listed, firstOctet, perGrant, gateOctets, registerReqFlag, registerFlag, registerAckFlag, opcodeOf, bodyOctets, encode, zeroPad}
-use Rattle.frame.specs.Range.{BodyFits, Valid}
+use Rattle.frame.specs.Layout.{headerOf, frameOf, gateOctets, registerReqFlag, registerFlag, registerAckFlag, opcodeOf, bodyOctets, encode, zeroPad}
+use Rattle.frame.specs.Range.{BodyFits}
 use Rattle.frame.specs.Reading.{oneOf, gateInRange, bodyInRange, Carries}
 use Rattle.reader.specs.Decode.{bit, quantaAt, grantAt, few, gateOf, gateAt, registerReqFlagOf, registerFlagOf, registerAckFlagOf, registerReqAt, registerAt, registerAckAt, bodyAt, messageAt, readControl, readOf}
-use Rattle.roundtrip.specs.Forth.{body-short, reads-padded}
-use Rattle.roundtrip.specs.Gate.{few-listed, grantsFrom, four-from, take-from, length-from, fits-from, octets-from, Ranged, ranged, octet-back}
+use Rattle.reader.proofs.Forth.{body-short, reads-padded}
+use Rattle.reader.proofs.Gate.{few-listed, grantsFrom, four-from, take-from, length-from, fits-from, octets-from, Ranged, ranged, octet-back}
 use Rattle.frame.specs.declared.RegisterReqFlag.{RegisterReqFlag}
 use Rattle.frame.specs.declared.RegisterFlag.{RegisterFlag}
 use Rattle.frame.specs.declared.RegisterAckFlag.{RegisterAckFlag}
 use Rattle.frame.specs.declared.Body.{Body}
-use Rattle.frame.specs.declared.Body.the-variants.{Gate, Discovery, Report, RegisterReq, Register, RegisterAck}
+use Rattle.frame.specs.declared.Body.the-variants.{Gate, Discovery, Report}
 use Rattle.frame.specs.declared.Message.{Message}
 use Rattle.frame.specs.declared.Reply.{Reply}
 use Rattle.frame.specs.declared.Reply.the-variants.{Done, Size, Kind, Opcode, Range}

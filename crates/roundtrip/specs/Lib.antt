@@ -1,5 +1,0 @@
-pub mod Back
-pub mod Forth
-pub mod Gate
-pub mod Table
-pub mod Written
