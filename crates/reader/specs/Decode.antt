@@ -1,5 +1,5 @@
--- What the reader makes of sixty octets: what stands where, and the tests in their order. That this is document 01's table and its
--- layout is shown of it in the crate `roundtrip`.
+-- What the reader makes of sixty octets: what stands where, and the tests in their order. `proofs/Table.antt` shows that this is what
+-- the page `Reading` of the crate `frame` answers.
 -- Assumes nothing.
 use Prim.Native.Nat.{ℕ, _+_, _/_, _%_}
 use mathlib.Core.Bool.{Bool, cond, _&&_}

@@ -1,5 +1,5 @@
--- What writing answers, and the steps in which the writer lays the octets out. That this is what document 01 says is shown of it in
--- the crate `roundtrip`.
+-- What writing answers, and the steps in which the writer lays the octets out. `proofs/Page.antt` shows that this is what the page
+-- `Writing` of the crate `frame` answers.
 -- Assumes nothing.
 use Prim.Native.Nat.{ℕ, zero, suc, _+_, _≤_}
 use mathlib.Core.Path.{_≡_, ap}
