@@ -13,6 +13,7 @@ use frame::Grants;
 use frame::Message;
 use frame::RegisterAckFlag;
 use frame::Reply;
+use frame::Writing;
 
 const MOST_OCTETS: usize = 256;
 
@@ -108,9 +109,7 @@ fn show_message(m: Message) {
     show_body(body);
 }
 
-// The frame that carries the message: what was read, with its pad zeroed.
-fn show_frame(m: Message) {
-    let writing = writer::write(m);
+fn show_frame(writing: Writing) {
     let octets = writing.octets;
     out::text(b" frame ");
     hex::show(&octets);
@@ -128,7 +127,7 @@ fn show_refused(destination: Address, source: Address, body: Body) {
     let reply = writing.reply;
     out::text(b"write");
     out::number(reply.number() as u64);
-    show_frame(m);
+    show_frame(writing);
 }
 
 fn show_out_of_range() {
@@ -166,7 +165,7 @@ fn show_reading(octets: &[u8]) {
     if let Reply::Done = reply {
         let message = reading.message;
         show_message(message);
-        show_frame(message);
+        show_frame(writer::write(message));
     }
 }
 
