@@ -1,4 +1,4 @@
--- `clock::Count::distance` meets its contract: the wrapped difference is the gap, and the test takes it with its sign.
+-- `clock::Count::distance` meets its promise: the wrapped difference is the gap, and the test takes it with its sign.
 -- Assumes nothing.
 use mathlib.Core.Path.{_≡_}
 use native.Mathlib.Omega.{arith}

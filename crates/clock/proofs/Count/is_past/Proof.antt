@@ -1,4 +1,4 @@
--- `clock::Count::is_past` meets its contract: the distance's sign is the definition's test.
+-- `clock::Count::is_past` meets its promise: the distance's sign is the definition's test.
 -- Assumes nothing.
 use borrow.Author.Needs.{needs}
 use Rattle.clock.specs.Counts.{isPast}

@@ -1,4 +1,4 @@
--- `clock::Count::nearer` meets its contract: its test of the two distances is the definition's.
+-- `clock::Count::nearer` meets its promise: its test of the two distances is the definition's.
 -- Assumes nothing.
 use borrow.Author.Needs.{needs}
 use Rattle.clock.specs.Counts.{nearer}

@@ -1,4 +1,4 @@
--- `clock::Count::next` meets its contract: the wrapped sum is the definition's.
+-- `clock::Count::next` meets its promise: the wrapped sum is the definition's.
 -- Assumes nothing.
 use borrow.Author.Needs.{needs}
 use Rattle.clock.specs.Counts.{nextOf}

@@ -1,4 +1,4 @@
--- `clock::Count::reach` meets its contract: the distance's sign tells past from ahead, and ahead the cast changes nothing.
+-- `clock::Count::reach` meets its promise: the distance's sign tells past from ahead, and ahead the cast changes nothing.
 -- Assumes nothing.
 use mathlib.Core.Path.{sym}
 use borrow.Author.Needs.{needs}

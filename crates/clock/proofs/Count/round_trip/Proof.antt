@@ -1,4 +1,4 @@
--- `clock::Count::round_trip` meets its contract: a distance, or below 0 a turn more than it, is the gap.
+-- `clock::Count::round_trip` meets its promise: a distance, or below 0 a turn more than it, is the gap.
 -- Assumes nothing.
 use borrow.Author.Needs.{needs}
 use Rattle.clock.proofs.Signed.{near-gap, near-casts, far-gap, far-fits, far-casts}

@@ -1,4 +1,4 @@
--- `clock::Timer::off` meets its contract: its test is the definition's.
+-- `clock::Timer::off` meets its promise: its test is the definition's.
 -- Assumes nothing.
 use mathlib.Core.Path.{refl}
 use Rattle.clock.specs.Timers.{off}

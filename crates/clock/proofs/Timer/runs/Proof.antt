@@ -1,4 +1,4 @@
--- `clock::Timer::runs` meets its contract: its two tests are the definition's.
+-- `clock::Timer::runs` meets its promise: its two tests are the definition's.
 -- Assumes nothing.
 use borrow.Author.Tests.{le-leb, lt-leb}
 use Rattle.clock.specs.Timers.{runs}

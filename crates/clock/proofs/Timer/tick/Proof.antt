@@ -1,4 +1,4 @@
--- `clock::Timer::tick` meets its contract: its test picks the definition's arm.
+-- `clock::Timer::tick` meets its promise: its test picks the definition's arm.
 -- Assumes nothing.
 use borrow.Author.Needs.{needs}
 use borrow.Author.Tests.{eq-eqb, ne-eqb}
