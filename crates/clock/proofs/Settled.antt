@@ -28,6 +28,8 @@ use Rattle.clock.proofs.Timer.off.Kinds as off-kinds
 use Rattle.clock.proofs.Timer.off.Reads as off-reads
 use Rattle.clock.proofs.Timer.runs.Kinds as runs-kinds
 use Rattle.clock.proofs.Timer.runs.Reads as runs-reads
+use Rattle.clock.proofs.Count.start_in_range.Kinds as start-in-range-kinds
+use Rattle.clock.proofs.Count.start_in_range.Reads as start-in-range
 
 pub next-settles : Settles 0 next-kinds.ps next-kinds.r next-reads.Post
 next-settles κs a e x y p q = p ∙ sym q
@@ -67,3 +69,6 @@ off-settles κs a e x y p q = p ∙ sym q
 
 pub runs-settles : Settles 0 runs-kinds.ps runs-kinds.r runs-reads.Post
 runs-settles κs a e x y p q = p ∙ sym q
+
+pub start-in-range-settles : Settles 0 start-in-range-kinds.ps start-in-range-kinds.r start-in-range.Post
+start-in-range-settles κs a e x y p q = p ∙ sym q

@@ -1,6 +1,7 @@
 // The clock: counts, lengths and timers. Document 01, "Counts and lengths" and "Numbers".
 ghost use mathlib.Core.Path.{_≡_};
 ghost use Rattle.clock.specs.Counts.{nextOf, distance, isPast, nearer, reach, driftOf, roundTrip};
+ghost use Rattle.clock.specs.Numbers.{startInRange};
 ghost use Rattle.clock.specs.Timers.{off, runs, ticked};
 
 // A reading of the 32-bit counter.
@@ -73,6 +74,19 @@ impl Count {
             return Reach::Past;
         }
         Reach::Ahead(Quanta(d as u32))
+    }
+
+    // A grant that starts then may be taken now.
+    pub fn start_in_range(self, start: Count) -> bool
+        ensures { λ r. ⌜ r ≡ startInRange (self .0) (start .0) ⌝ }
+    {
+        match self.reach(start) {
+            Reach::Past => false,
+            Reach::Ahead(wait) => {
+                let furthest = Count::FURTHEST;
+                wait.0 <= furthest.0
+            }
+        }
     }
 
     // The box's drift: how far the timestamp is from its own count.

@@ -8,6 +8,8 @@ use Rattle.range.proofs.length.Kinds as length-kinds
 use Rattle.range.proofs.length.Reads as length
 use Rattle.range.proofs.message.Kinds as message-kinds
 use Rattle.range.proofs.message.Reads as message
+use Rattle.range.proofs.individual.Kinds as individual-kinds
+use Rattle.range.proofs.individual.Reads as individual
 
 pub address-settles : Settles 0 address-kinds.ps address-kinds.r address.Post
 address-settles κs a e x y p q = p ∙ sym q
@@ -17,3 +19,6 @@ length-settles κs a e x y p q = p ∙ sym q
 
 pub message-settles : Settles 0 message-kinds.ps message-kinds.r message.Post
 message-settles κs a e x y p q = p ∙ sym q
+
+pub individual-settles : Settles 0 individual-kinds.ps individual-kinds.r individual.Post
+individual-settles κs a e x y p q = p ∙ sym q

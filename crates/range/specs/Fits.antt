@@ -1,12 +1,12 @@
 -- Whether a message is in range, as a test, and that the test is the one of `Range` in the crate `frame`.
 -- Assumes nothing.
-use Prim.Native.Nat.{ℕ, _^_, _<_}
+use Prim.Native.Nat.{ℕ, _/_, _%_, _^_, _<_}
 use mathlib.Core.Path.{_≡_, refl}
 use mathlib.Core.Bool.{Bool, true, _&&_, and-eq-true-iff}
 use mathlib.Core.List.{List, [], _∷_}
 use native.Mathlib.Omega.{arith}
 use borrow.Author.Tests.{leb-true, le-leb}
-use lib.Dec.{leb}
+use lib.Dec.{eqb, leb, ltb}
 use Rattle.clock.specs.declared.Quanta.{Quanta}
 use Rattle.frame.specs.Layout.{listed}
 use Rattle.frame.specs.Range.{GrantsFit, BodyFits, Valid, GrantsTyped, BodyTyped, Typed}
@@ -18,6 +18,10 @@ use Rattle.frame.specs.declared.Message.{Message}
 
 abbrev pub fitsAddress : Address → Bool
 fitsAddress a = leb (a .0) 0xFFFFFFFFFFFF
+
+-- individual and nonzero: a group's address has an odd first octet
+abbrev pub isIndividual : Address → Bool
+isIndividual a = fitsAddress a && ltb 0 (a .0) && eqb (a .0 / 2 ^ 40 % 2) 0
 
 abbrev pub fitsLength : Quanta → Bool
 fitsLength length = leb (length .0) 0xFFFF

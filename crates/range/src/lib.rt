@@ -2,7 +2,7 @@
 ghost use mathlib.Core.Path.{_≡_};
 ghost use mathlib.Core.Bool.{true};
 ghost use Rattle.frame.specs.Layout.{listed};
-ghost use Rattle.range.specs.Fits.{fitsAddress, fitsLength, fitsGrant, fitsAll, fitsBody, fitsMessage};
+ghost use Rattle.range.specs.Fits.{fitsAddress, isIndividual, fitsLength, fitsGrant, fitsAll, fitsBody, fitsMessage};
 use clock::Quanta;
 use frame::Address;
 use frame::Body;
@@ -15,6 +15,14 @@ pub fn address(a: Address) -> bool
 {
     let largest = Address::LARGEST;
     a.0 <= largest.0
+}
+
+// An own address, or a link's: not zero, and no group's, whose first octet is odd.
+pub fn individual(a: Address) -> bool
+    ensures { λ r. ⌜ r ≡ isIndividual a ⌝ }
+{
+    let n = a.0;
+    address(a) & (0 < n) & ((n >> 40) % 2 == 0)
 }
 
 // A length or a sync time.
