@@ -1,0 +1,5 @@
+pub mod Activation
+pub mod Keeps
+pub mod Laws
+pub mod Listed
+pub mod Sound
