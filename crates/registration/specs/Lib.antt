@@ -1,0 +1,4 @@
+pub mod Laws
+pub mod Registration
+pub mod Sound
+pub mod Tick
