@@ -1,0 +1,34 @@
+-- Every promise of this crate settles the whole answer.
+-- Assumes nothing.
+use mathlib.Core.Path.{sym, _∙_}
+use Rattle.laws.specs.Settles.{Settles}
+use Rattle.light.proofs.Light.needed.Kinds as needed-kinds
+use Rattle.light.proofs.Light.needed.Reads as needed
+use Rattle.light.proofs.Light.laser_on.Kinds as laser-on-kinds
+use Rattle.light.proofs.Light.laser_on.Reads as laser-on
+use Rattle.light.proofs.Light.randomly.Kinds as randomly-kinds
+use Rattle.light.proofs.Light.randomly.Reads as randomly
+use Rattle.light.proofs.Light.at_rest.Kinds as at-rest-kinds
+use Rattle.light.proofs.Light.at_rest.Reads as at-rest
+use Rattle.light.proofs.Light.sound.Kinds as sound-kinds
+use Rattle.light.proofs.Light.sound.Reads as sound
+use Rattle.light.proofs.Light.tick.Kinds as tick-kinds
+use Rattle.light.proofs.Light.tick.Reads as tick
+
+pub needed-settles : Settles 0 needed-kinds.ps needed-kinds.r needed.Post
+needed-settles κs a e x y p q = p ∙ sym q
+
+pub laser-on-settles : Settles 0 laser-on-kinds.ps laser-on-kinds.r laser-on.Post
+laser-on-settles κs a e x y p q = p ∙ sym q
+
+pub randomly-settles : Settles 0 randomly-kinds.ps randomly-kinds.r randomly.Post
+randomly-settles κs a e x y p q = p ∙ sym q
+
+pub at-rest-settles : Settles 0 at-rest-kinds.ps at-rest-kinds.r at-rest.Post
+at-rest-settles κs a e x y p q = p ∙ sym q
+
+pub sound-settles : Settles 0 sound-kinds.ps sound-kinds.r sound.Post
+sound-settles κs a e x y p q = p ∙ sym q
+
+pub tick-settles : Settles 0 tick-kinds.ps tick-kinds.r tick.Post
+tick-settles κs a e x y p q = p ∙ sym q

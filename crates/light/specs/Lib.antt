@@ -1,0 +1,4 @@
+pub mod Laws
+pub mod Light
+pub mod Sound
+pub mod Tick
