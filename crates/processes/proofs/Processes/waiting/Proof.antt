@@ -1,0 +1,18 @@
+-- `processes::Processes::waiting` meets its promise.
+-- Assumes nothing.
+use borrow.Author.Needs.{needs}
+use Rattle.processes.specs.Parts.{waiting}
+use Rattle.processes.proofs.Processes.waiting.Statement.{statement}
+use Rattle.processes.proofs.Processes.waiting.Tie as tie
+
+waiting-requires : tie.Need-waiting-requires
+waiting-requires c κs = search needs
+
+empty-requires : tie.Need-empty-requires
+empty-requires c κs = search needs
+
+returns : tie.Need-returns
+returns c = rw (c .empty .ensures, c .before .waiting .ensures)
+
+pub waiting-spec : {M : Type 1} → statement M
+waiting-spec = tie.close (tie.spec waiting-requires empty-requires returns)

@@ -1,0 +1,140 @@
+// The box's processes: its count, its registration, its list of grants and its transmitter.
+ghost use mathlib.Core.Path.{_≡_};
+ghost use Rattle.processes.specs.Parts.{fresh, withCount, withRegistration, withList, withLight, waiting, still};
+ghost use Rattle.processes.specs.Sound.{restsIn, soundOf};
+use clock::Count;
+use grants::GrantList;
+use light::Light;
+use registration::Registration;
+use registration::State;
+use telling::Notices;
+use telling::Sent;
+
+pub struct Processes {
+    pub count: Count,
+    pub registration: Registration,
+    pub list: GrantList,
+    pub light: Light,
+}
+
+// What a message or a tick does: the processes after it, what is told, and what is sent, in order. Only a discovery window that opens
+// on a box not REGISTERING is not ok.
+pub struct Step {
+    pub ok: bool,
+    pub next: Processes,
+    pub notices: Notices,
+    pub first: Sent,
+    pub second: Sent,
+}
+
+impl Processes {
+    pub fn fresh() -> Processes
+        ensures { λ r. ⌜ r ≡ fresh ⌝ }
+    {
+        let registration = Registration::fresh();
+        let list = GrantList::empty();
+        Processes {
+            count: Count(0),
+            registration,
+            list,
+            light: Light::Rest,
+        }
+    }
+
+    pub fn with_count(self, count: Count) -> Processes
+        ensures { λ r. ⌜ r ≡ withCount self count ⌝ }
+    {
+        let mut next = self;
+        next.count = count;
+        next
+    }
+
+    pub fn with_registration(self, registration: Registration) -> Processes
+        ensures { λ r. ⌜ r ≡ withRegistration self registration ⌝ }
+    {
+        let mut next = self;
+        next.registration = registration;
+        next
+    }
+
+    pub fn with_list(self, list: GrantList) -> Processes
+        ensures { λ r. ⌜ r ≡ withList self list ⌝ }
+    {
+        let mut next = self;
+        next.list = list;
+        next
+    }
+
+    pub fn with_light(self, light: Light) -> Processes
+        ensures { λ r. ⌜ r ≡ withLight self light ⌝ }
+    {
+        let count = self.count;
+        let registration = self.registration;
+        let list = self.list;
+        Processes {
+            count,
+            registration,
+            list,
+            light,
+        }
+    }
+
+    // Entering WAIT darkens the laser, disables transmission, empties the list and stops all timers.
+    pub fn waiting(self) -> Processes
+        ensures { λ r. ⌜ r ≡ waiting self ⌝ }
+    {
+        let count = self.count;
+        let before = self.registration;
+        let registration = before.waiting();
+        let list = GrantList::empty();
+        Processes {
+            count,
+            registration,
+            list,
+            light: Light::Rest,
+        }
+    }
+
+    // In WAIT the transmitter is at rest.
+    fn rests(self) -> bool
+        ensures { λ r. ⌜ r ≡ restsIn (self .registration .state) (self .light) ⌝ }
+    {
+        let registration = self.registration;
+        let light = self.light;
+        let state = registration.state;
+        match state {
+            State::Wait => light.at_rest(),
+            State::Registering => true,
+            State::RegisterReq => true,
+            State::Registered => true,
+        }
+    }
+
+    pub fn sound(self) -> bool
+        ensures { λ r. ⌜ r ≡ soundOf self ⌝ }
+    {
+        let registration = self.registration;
+        let list = self.list;
+        let light = self.light;
+        registration.sound()
+            & list.sound()
+            & (registration.is_registered() | (list.number == 0))
+            & light.sound(list)
+            & self.rests()
+    }
+}
+
+impl Step {
+    // No notice and no frame.
+    pub fn still(p: Processes) -> Step
+        ensures { λ r. ⌜ r ≡ still p ⌝ }
+    {
+        Step {
+            ok: true,
+            next: p,
+            notices: Notices::none(),
+            first: Sent::Nothing,
+            second: Sent::Nothing,
+        }
+    }
+}
