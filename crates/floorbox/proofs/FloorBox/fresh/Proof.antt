@@ -1,0 +1,49 @@
+-- `floorbox::FloorBox::fresh` meets its promise.
+-- Assumes nothing.
+use borrow.Author.Needs.{needs}
+use Rattle.floorbox.specs.Box.{freshOf}
+use Rattle.floorbox.proofs.FloorBox.fresh.Statement.{statement}
+use Rattle.floorbox.proofs.FloorBox.fresh.Tie as tie
+
+fresh-requires : tie.Need-fresh-requires
+fresh-requires c κs = search needs
+
+individual-requires : tie.Need-individual-requires
+individual-requires c κs = search needs
+
+refused-requires : tie.Need-refused-requires
+refused-requires c κs = search needs
+
+returns : tie.Need-returns
+unfolding freshOf
+returns c =
+    rw (
+      c .refused .ensures,
+      ← c .before .before .before .fresh .ensures,
+      ← c .before .before .individual .ensures,
+      c .before .if1 .taken,
+    )
+
+refused-requires-2 : tie.Need-refused-requires-2
+refused-requires-2 c κs = search needs
+
+returns-2 : tie.Need-returns-2
+unfolding freshOf
+returns-2 c =
+    rw (
+      c .refused2 .ensures,
+      ← c .before .before .before .fresh .ensures,
+      ← c .before .before .individual .ensures,
+      c .before .if1 .left,
+    )
+
+pub fresh-spec : {M : Type 1} → statement M
+fresh-spec =
+    tie.close
+    (tie.spec
+    fresh-requires
+    individual-requires
+    refused-requires
+    returns
+    refused-requires-2
+    returns-2)

@@ -1,0 +1,16 @@
+-- `floorbox::FloorBox::is_for` meets its promise.
+-- Assumes nothing.
+use borrow.Author.Needs.{needs}
+use Rattle.floorbox.specs.Hear.{isFor}
+use Rattle.floorbox.proofs.FloorBox.is_for.Statement.{statement}
+use Rattle.floorbox.proofs.FloorBox.is_for.Tie as tie
+
+is-discovery-requires : tie.Need-is-discovery-requires
+is-discovery-requires c κs = search needs
+
+returns : tie.Need-returns
+unfolding isFor
+returns c = rw (c .before .before .is-discovery .ensures)
+
+pub is-for-spec : {M : Type 1} → statement M
+is-for-spec = tie.close (tie.spec is-discovery-requires returns)

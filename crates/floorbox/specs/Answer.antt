@@ -1,0 +1,52 @@
+-- Document 01, "Reply numbers" and "Steps of the box": what a call of the box is answered with.
+-- Assumes nothing.
+use Prim.Native.Nat.{ℕ}
+use mathlib.Core.Bool.{cond}
+use mathlib.Core.List.{List, [], _∷_}
+use lib.IntN.{ℤ, pos}
+use Rattle.clock.specs.declared.Count.{Count}
+use Rattle.frame.specs.Card.{Test, _unless_}
+use Rattle.frame.specs.declared.Address.{Address}
+use Rattle.frame.specs.declared.Body.{Body}
+use Rattle.frame.specs.declared.Message.{Message}
+use Rattle.frame.specs.declared.Reply.{Reply}
+use Rattle.frame.specs.declared.Reply.the-variants.{Done}
+use Rattle.writer.specs.Write.{writeOf}
+use Rattle.telling.specs.Told.{noNotices, noFrames, handed}
+use Rattle.telling.specs.declared.Frames.{Frames}
+use Rattle.telling.specs.declared.Sent.{Sent}
+use Rattle.telling.specs.declared.Sent.the-variants.{Nothing, Is}
+use Rattle.processes.specs.declared.Step.{Step}
+use Rattle.activation.specs.Activation.{activate}
+use Rattle.floorbox.specs.declared.FloorBox.{FloorBox}
+use Rattle.floorbox.specs.declared.Answer.{Answer}
+
+-- the drift is 0 in every reply but that to an accepted message; each refusal changes nothing
+abbrev pub refused : FloorBox → Reply → Answer
+refused b r = record { reply = r; drift = pos 0; next = b; frames = noFrames; notices = noNotices }
+
+-- the box's frames go from its own address to 01-80-C2-00-00-01 with its count
+abbrev pub messageOf : Address → Count → Body → Message
+messageOf own now body = record { destination = record { 0 = 0x0180C2000001 }; source = own; timestamp = now; body = body }
+
+abbrev pub framed : Address → Count → Frames → Sent → Frames
+framed own now f Nothing = f
+framed own now f (Is body) = handed f (writeOf (messageOf own now body) .octets)
+
+-- activation at the end of every call
+unfoldable pub accepted : FloorBox → ℤ → Step → Answer
+accepted b drift s =
+    let own = b .address in
+    let now = s .next .count in
+    record {
+      reply = Done;
+      drift = drift;
+      next = record { address = own; processes = activate (s .next) };
+      frames = framed own now (framed own now noFrames (s .first)) (s .second);
+      notices = s .notices;
+    }
+
+-- of a list of tests the first that is not passed gives the answer
+abbrev pub given : List Test → FloorBox → Answer → Answer
+given [] b a = a
+given (r unless t ∷ ts) b a = cond t (given ts b a) (refused b r)

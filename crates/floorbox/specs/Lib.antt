@@ -1,0 +1,4 @@
+pub mod Answer
+pub mod Box
+pub mod Hear
+pub mod Send

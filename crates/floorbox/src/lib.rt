@@ -1,0 +1,317 @@
+// The floor box: document 01's box, with an own address, and its calls. Each answers every input.
+ghost use mathlib.Core.Path.{_≡_};
+ghost use lib.IntN.{pos};
+ghost use Rattle.floorbox.specs.Answer.{refused, framed, accepted};
+ghost use Rattle.floorbox.specs.Box.{soundOf, freshOf, registerOf, deregisterOf, tickOf};
+ghost use Rattle.floorbox.specs.Hear.{isFromHead, isDiscovery, isFor, heardOf, hearOf};
+ghost use Rattle.floorbox.specs.Send.{remaining, fitsIn, sendOf};
+use clock::Count;
+use frame::Address;
+use frame::Body;
+use frame::Message;
+use frame::Reply;
+use light::Light;
+use processes::Processes;
+use processes::Step;
+use registration::State;
+use telling::Frames;
+use telling::Notices;
+use telling::Sent;
+
+pub struct FloorBox {
+    pub address: Address,
+    pub processes: Processes,
+}
+
+// What a call is answered with: the number on the card, the drift, the box after the call, the frames that it hands out, the notices.
+pub struct Answer {
+    pub reply: Reply,
+    pub drift: i64,
+    pub next: FloorBox,
+    pub frames: Frames,
+    pub notices: Notices,
+}
+
+impl FloorBox {
+    // A box that has not begun; with another address than an individual one it is refused, and holds address zero.
+    pub fn fresh(address: Address) -> Answer
+        ensures { λ r. ⌜ r ≡ freshOf address ⌝ }
+    {
+        let processes = Processes::fresh();
+        if range::individual(address) {
+            let ready = FloorBox { address, processes };
+            return ready.refused(Reply::Done);
+        }
+        let nobody = Address(0);
+        let blank = FloorBox {
+            address: nobody,
+            processes,
+        };
+        blank.refused(Reply::Range)
+    }
+
+    pub fn sound(self) -> bool
+        ensures { λ r. ⌜ r ≡ soundOf self ⌝ }
+    {
+        let address = self.address;
+        let processes = self.processes;
+        range::individual(address) & processes.sound()
+    }
+
+    // A refusal changes nothing.
+    fn refused(self, reply: Reply) -> Answer
+        ensures { λ r. ⌜ r ≡ refused self reply ⌝ }
+    {
+        Answer {
+            reply,
+            drift: 0,
+            next: self,
+            frames: Frames::none(),
+            notices: Notices::none(),
+        }
+    }
+
+    // The frames of a box go from its own address to 01-80-C2-00-00-01 with its count.
+    fn frame(self, now: Count, frames: Frames, sent: Sent) -> Frames
+        ensures { λ r. ⌜ r ≡ framed (self .address) now frames sent ⌝ }
+    {
+        match sent {
+            Sent::Nothing => frames,
+            Sent::Is(body) => {
+                let source = self.address;
+                let destination = Address::MULTICAST;
+                let message = Message {
+                    destination,
+                    source,
+                    timestamp: now,
+                    body,
+                };
+                let written = writer::write(message);
+                let octets = written.octets;
+                frames.and(octets)
+            }
+        }
+    }
+
+    // What a step makes of the box, with activation at its end.
+    fn accepted(self, drift: i64, step: Step) -> Answer
+        ensures { λ r. ⌜ r ≡ accepted self drift step ⌝ }
+    {
+        let address = self.address;
+        let stepped = step.next;
+        let now = stepped.count;
+        let first = step.first;
+        let second = step.second;
+        let notices = step.notices;
+        let frames = self.frame(now, self.frame(now, Frames::none(), first), second);
+        let processes = activation::activate(stepped);
+        let next = FloorBox { address, processes };
+        Answer {
+            reply: Reply::Done,
+            drift,
+            next,
+            frames,
+            notices,
+        }
+    }
+
+    // The client asks to register.
+    pub fn register(self) -> Answer
+        ensures { λ r. ⌜ r ≡ registerOf self ⌝ }
+    {
+        let processes = self.processes;
+        let registration = processes.registration;
+        if !self.sound() {
+            return self.refused(Reply::Unsound);
+        }
+        if !registration.is_waiting() {
+            return self.refused(Reply::State);
+        }
+        let begun = processes.with_registration(registration.registering());
+        self.accepted(0, Step::still(begun))
+    }
+
+    // The client asks to deregister.
+    pub fn deregister(self) -> Answer
+        ensures { λ r. ⌜ r ≡ deregisterOf self ⌝ }
+    {
+        let processes = self.processes;
+        let registration = processes.registration;
+        if !self.sound() {
+            return self.refused(Reply::Unsound);
+        }
+        if !registration.is_registered() {
+            return self.refused(Reply::State);
+        }
+        self.accepted(0, ticking::local_deregister(processes))
+    }
+
+    // A message, with the caller's random number.
+    pub fn hear(self, message: Message, random: u32) -> Answer
+        ensures { λ r. ⌜ r ≡ hearOf self message random ⌝ }
+    {
+        let body = message.body;
+        let destination = message.destination;
+        if !self.sound() {
+            return self.refused(Reply::Unsound);
+        }
+        if !is_from_head(body) {
+            return self.refused(Reply::Direction);
+        }
+        if !self.is_for(destination, body) {
+            return self.refused(Reply::Party);
+        }
+        if !range::message(message) {
+            return self.refused(Reply::Range);
+        }
+        self.heard(message, random)
+    }
+
+    // Before any step the count is set to the timestamp.
+    fn heard(self, message: Message, random: u32) -> Answer
+        ensures { λ r. ⌜ r ≡ heardOf self message random ⌝ }
+    {
+        let address = self.address;
+        let processes = self.processes;
+        let before = processes.count;
+        let body = message.body;
+        let destination = message.destination;
+        let timestamp = message.timestamp;
+        let drift = before.drift(timestamp);
+        let own = destination.0 == address.0;
+        let step = hearing::hear(processes.with_count(timestamp), body, own, random);
+        self.accepted(drift, step)
+    }
+
+    // A discovery GATE may carry 01-80-C2-00-00-01 instead of the box's address.
+    fn is_for(self, destination: Address, body: Body) -> bool
+        ensures { λ r. ⌜ r ≡ isFor self destination body ⌝ }
+    {
+        let address = self.address;
+        let all = Address::MULTICAST;
+        (destination.0 == address.0) | (is_discovery(body) & (destination.0 == all.0))
+    }
+
+    pub fn tick(self) -> Answer
+        ensures { λ r. ⌜ r ≡ tickOf self ⌝ }
+    {
+        let processes = self.processes;
+        if !self.sound() {
+            return self.refused(Reply::Unsound);
+        }
+        let step = ticking::tick(processes);
+        if !step.ok {
+            return self.refused(Reply::Window);
+        }
+        self.accepted(0, step)
+    }
+
+    // Whether a frame of n octets fits the window's remaining ticks.
+    fn fits(self, n: usize) -> bool
+        ensures { λ r. ⌜ r ≡ fitsIn (remaining (self .processes .light)) n ⌝ }
+    {
+        let processes = self.processes;
+        let light = processes.light;
+        let octets = 2 * remaining(light) as u64;
+        if octets < 24 {
+            return false;
+        }
+        n as u64 <= octets - 24
+    }
+
+    // The waiting frame that goes next, or the empty part of the control frame's buffer.
+    pub fn next_to_send<'a>(self, control: &'a [u8], data: &'a [u8]) -> &'a [u8]
+        ensures { λ r. ⌜ (r .ptr ≡ sendOf self (control .entry) («data» .entry) .ptr) × (now r ≡ sendOf self (control .entry) («data» .entry) .now) ⌝ }
+    {
+        let processes = self.processes;
+        let registration = processes.registration;
+        let c = control.len();
+        let d = data.len();
+        if (0 < c) & self.fits(c) {
+            return control;
+        }
+        if (c == 0) & (0 < d) & registration.is_registered() & self.fits(d) {
+            return data;
+        }
+        &control[..0]
+    }
+}
+
+// What the head sends.
+fn is_from_head(body: Body) -> bool
+    ensures { λ r. ⌜ r ≡ isFromHead body ⌝ }
+{
+    match body {
+        Body::Gate(_) => true,
+        Body::Discovery { grant: _, sync: _ } => true,
+        Body::Report => false,
+        Body::RegisterReq {
+            flag: _,
+            pending: _,
+        } => false,
+        Body::Register {
+            port: _,
+            flag: _,
+            sync: _,
+            pending: _,
+        } => true,
+        Body::RegisterAck {
+            flag: _,
+            port: _,
+            sync: _,
+        } => false,
+    }
+}
+
+fn is_discovery(body: Body) -> bool
+    ensures { λ r. ⌜ r ≡ isDiscovery body ⌝ }
+{
+    match body {
+        Body::Gate(_) => false,
+        Body::Discovery { grant: _, sync: _ } => true,
+        Body::Report => false,
+        Body::RegisterReq {
+            flag: _,
+            pending: _,
+        } => false,
+        Body::Register {
+            port: _,
+            flag: _,
+            sync: _,
+            pending: _,
+        } => false,
+        Body::RegisterAck {
+            flag: _,
+            port: _,
+            sync: _,
+        } => false,
+    }
+}
+
+// The window's remaining ticks; none while transmission is disabled.
+fn remaining(light: Light) -> u32
+    ensures { λ r. ⌜ r ≡ remaining light ⌝ }
+{
+    match light {
+        Light::Rest => 0,
+        Light::Before {
+            timer: _,
+            random: _,
+            sync: _,
+        } => 0,
+        Light::Random { timer: _, sync: _ } => 0,
+        Light::Warming { timer: _ } => 0,
+        Light::Asking { timer } => timer.left,
+        Light::Due {
+            timer: _,
+            entry: _,
+            sync: _,
+        } => 0,
+        Light::Lit {
+            timer: _,
+            length: _,
+            sync: _,
+        } => 0,
+        Light::Open { timer } => timer.left,
+    }
+}
