@@ -1,0 +1,12 @@
+pub mod Activation
+pub mod Awaited
+pub mod Calls
+pub mod Frames
+pub mod Gate
+pub mod Hear
+pub mod Runs
+pub mod Sends
+pub mod Sound
+pub mod Steady
+pub mod Tick
+pub mod Watchdog
