@@ -1,6 +1,5 @@
 // What a line asks for.
 use crate::messages;
-use crate::messages::Heard;
 use crate::words;
 use crate::words::Numbers;
 use frame::Address;
@@ -8,13 +7,17 @@ use frame::Message;
 
 pub enum Call {
     Fresh(Address),
-    Register,
-    Deregister,
-    Hear(Message, u32),
+    Ask(Ask),
     Tick(u64),
     Hand(Part),
     Look(Look),
-    Not,
+}
+
+// What the client or the head asks of the box, the message with the caller's random number.
+pub enum Ask {
+    Register,
+    Deregister,
+    Hear(Message, u32),
 }
 
 // A part of the box that is handed in with another number.
@@ -31,14 +34,12 @@ pub enum Look {
     Send(u64, u64),
     Octets,
     Timers,
+    Nothing,
 }
 
-fn of_none(name: &[u8]) -> Call {
-    if words::same(name, b"register") {
-        return Call::Register;
-    }
-    if words::same(name, b"deregister") {
-        return Call::Deregister;
+fn look_of(name: &[u8], a: u64, b: u64) -> Call {
+    if words::same(name, b"send") {
+        return Call::Look(Look::Send(a, b));
     }
     if words::same(name, b"octets") {
         return Call::Look(Look::Octets);
@@ -46,21 +47,11 @@ fn of_none(name: &[u8]) -> Call {
     if words::same(name, b"timers") {
         return Call::Look(Look::Timers);
     }
-    Call::Not
+    Call::Look(Look::Nothing)
 }
 
-fn of_one(name: &[u8], n: u64) -> Call {
-    if words::same(name, b"fresh") {
-        return Call::Fresh(Address(n));
-    }
-    if words::same(name, b"tick") {
-        return Call::Tick(n);
-    }
-    of_part(name, n)
-}
-
-fn of_part(name: &[u8], n: u64) -> Call {
-    let left = messages::modulo_32(n);
+fn hand_of(name: &[u8], a: u64, b: u64) -> Call {
+    let left = messages::modulo_32(a);
     if words::same(name, b"hand_wait") {
         return Call::Hand(Part::Wait(left));
     }
@@ -74,38 +65,42 @@ fn of_part(name: &[u8], n: u64) -> Call {
         return Call::Hand(Part::Laser(left));
     }
     if words::same(name, b"hand_held") {
-        return Call::Hand(Part::Held(n));
+        return Call::Hand(Part::Held(a));
     }
-    Call::Not
+    look_of(name, a, b)
 }
 
-fn of_two(name: &[u8], a: u64, b: u64) -> Call {
-    if words::same(name, b"send") {
-        return Call::Look(Look::Send(a, b));
+fn ask_of(name: &[u8], a: u64, b: u64) -> Call {
+    if words::same(name, b"fresh") {
+        return Call::Fresh(Address(a));
     }
-    Call::Not
+    if words::same(name, b"register") {
+        return Call::Ask(Ask::Register);
+    }
+    if words::same(name, b"deregister") {
+        return Call::Ask(Ask::Deregister);
+    }
+    if words::same(name, b"tick") {
+        return Call::Tick(a);
+    }
+    hand_of(name, a, b)
 }
 
-fn of_more(name: &[u8], n: Numbers) -> Call {
-    let Heard::Is(message, random) = messages::named(name, n) else {
-        return Call::Not;
-    };
-    Call::Hear(message, random)
-}
-
-fn of(name: &[u8], n: Numbers) -> Call {
-    let x = n.of;
-    let number = n.number;
-    match number {
-        0 => of_none(name),
-        1 => of_one(name, x[0]),
-        2 => of_two(name, x[0], x[1]),
-        _ => of_more(name, n),
+// The random number stands behind a discovery GATE's fields, and means nothing to another message.
+fn call_of(name: &[u8], n: Numbers) -> Call {
+    let of = n.of;
+    if n.number > words::MOST {
+        return Call::Look(Look::Nothing);
     }
+    if messages::is_named(name) {
+        let random = messages::modulo_32(of[6]);
+        return Call::Ask(Ask::Hear(messages::message(name, n), random));
+    }
+    ask_of(name, of[0], of[1])
 }
 
 // A line is a name, and numbers behind it.
 pub fn asked(line: &[u8]) -> Call {
     let n = words::find(line, b' ');
-    of(&line[0..n], words::behind(line, n + 1))
+    call_of(&line[0..n], words::behind(line, n + 1))
 }

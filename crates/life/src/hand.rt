@@ -1,10 +1,9 @@
-// A box that is handed in again with one part of it changed: what no call of its own leads to.
+// A box that is handed in again with one part of it changed.
 use crate::calls::Part;
 use clock::Timer;
 use floorbox::FloorBox;
 use light::Light;
 use processes::Processes;
-use registration::Registration;
 
 fn with_processes(b: FloorBox, processes: Processes) -> FloorBox {
     let address = b.address;

@@ -7,8 +7,6 @@ mod run;
 mod tell;
 mod words;
 
-ghost use Prim.Native.Nat.{_≤_};
-ghost use lib.ListN.{length};
 use floorbox::Answer;
 use floorbox::FloorBox;
 use frame::Address;

@@ -12,16 +12,6 @@ use frame::RegisterAckFlag;
 use frame::RegisterFlag;
 use frame::RegisterReqFlag;
 
-enum Said {
-    Is(Body),
-    Not,
-}
-
-pub enum Heard {
-    Is(Message, u32),
-    Not,
-}
-
 // Numbers are taken modulo the width of what holds them.
 pub fn modulo_32(n: u64) -> u32 {
     (n % 0x100000000) as u32
@@ -47,152 +37,117 @@ fn grant(start: u64, length: u64, force: u64) -> Grant {
     }
 }
 
-fn first(of: [u64; 15]) -> Grant {
-    grant(of[3], of[4], of[5])
-}
-
-fn second(of: [u64; 15]) -> Grant {
-    grant(of[6], of[7], of[8])
-}
-
-fn third(of: [u64; 15]) -> Grant {
-    grant(of[9], of[10], of[11])
-}
-
-fn fourth(of: [u64; 15]) -> Grant {
-    grant(of[12], of[13], of[14])
-}
-
-fn gate_with(grants: Grants) -> Said {
-    Said::Is(Body::Gate(grants))
-}
-
-fn gate(n: Numbers) -> Said {
+// As many as the numbers behind the timestamp make.
+fn grants(n: Numbers) -> Grants {
     let of = n.of;
     let number = n.number;
-    match number {
-        3 => gate_with(Grants::None),
-        6 => gate_with(Grants::One(first(of))),
-        9 => gate_with(Grants::Two(first(of), second(of))),
-        12 => gate_with(Grants::Three(first(of), second(of), third(of))),
-        15 => gate_with(Grants::Four(first(of), second(of), third(of), fourth(of))),
-        _ => Said::Not,
+    if number < 6 {
+        return Grants::None;
+    }
+    let first = grant(of[3], of[4], of[5]);
+    if number < 9 {
+        return Grants::One(first);
+    }
+    let second = grant(of[6], of[7], of[8]);
+    if number < 12 {
+        return Grants::Two(first, second);
+    }
+    let third = grant(of[9], of[10], of[11]);
+    if number < 15 {
+        return Grants::Three(first, second, third);
+    }
+    Grants::Four(first, second, third, grant(of[12], of[13], of[14]))
+}
+
+// A flag that the frame does not have is taken as the last one that it has.
+fn register_req_flag(n: u64) -> RegisterReqFlag {
+    match n {
+        1 => RegisterReqFlag::Register,
+        _ => RegisterReqFlag::Deregister,
     }
 }
 
-fn discovery(n: Numbers) -> Said {
-    let of = n.of;
-    if n.number != 7 {
-        return Said::Not;
+fn register_flag(n: u64) -> RegisterFlag {
+    match n {
+        1 => RegisterFlag::Reregister,
+        2 => RegisterFlag::Deregister,
+        3 => RegisterFlag::Ack,
+        _ => RegisterFlag::Nack,
     }
-    Said::Is(Body::Discovery {
+}
+
+fn register_ack_flag(n: u64) -> RegisterAckFlag {
+    match n {
+        0 => RegisterAckFlag::Nack,
+        _ => RegisterAckFlag::Ack,
+    }
+}
+
+fn discovery(of: [u64; 15]) -> Body {
+    Body::Discovery {
         grant: grant(of[3], of[4], 0),
         sync: quanta(of[5]),
-    })
+    }
 }
 
-fn register_req_with(flag: RegisterReqFlag, of: [u64; 15]) -> Said {
-    Said::Is(Body::RegisterReq {
-        flag,
+fn register_req(of: [u64; 15]) -> Body {
+    Body::RegisterReq {
+        flag: register_req_flag(of[3]),
         pending: modulo_8(of[4]),
-    })
-}
-
-fn register_req(n: Numbers) -> Said {
-    let of = n.of;
-    if n.number != 5 {
-        return Said::Not;
-    }
-    match of[3] {
-        1 => register_req_with(RegisterReqFlag::Register, of),
-        3 => register_req_with(RegisterReqFlag::Deregister, of),
-        _ => Said::Not,
     }
 }
 
-fn register_with(flag: RegisterFlag, of: [u64; 15]) -> Said {
-    Said::Is(Body::Register {
+fn register(of: [u64; 15]) -> Body {
+    Body::Register {
         port: modulo_16(of[3]),
-        flag,
+        flag: register_flag(of[4]),
         sync: quanta(of[5]),
         pending: modulo_8(of[6]),
-    })
-}
-
-fn register(n: Numbers) -> Said {
-    let of = n.of;
-    if n.number != 7 {
-        return Said::Not;
-    }
-    match of[4] {
-        1 => register_with(RegisterFlag::Reregister, of),
-        2 => register_with(RegisterFlag::Deregister, of),
-        3 => register_with(RegisterFlag::Ack, of),
-        4 => register_with(RegisterFlag::Nack, of),
-        _ => Said::Not,
     }
 }
 
-fn register_ack_with(flag: RegisterAckFlag, of: [u64; 15]) -> Said {
-    Said::Is(Body::RegisterAck {
-        flag,
+fn register_ack(of: [u64; 15]) -> Body {
+    Body::RegisterAck {
+        flag: register_ack_flag(of[3]),
         port: modulo_16(of[4]),
         sync: quanta(of[5]),
-    })
+    }
 }
 
-fn register_ack(n: Numbers) -> Said {
+fn body(name: &[u8], n: Numbers) -> Body {
     let of = n.of;
-    if n.number != 6 {
-        return Said::Not;
-    }
-    match of[3] {
-        0 => register_ack_with(RegisterAckFlag::Nack, of),
-        1 => register_ack_with(RegisterAckFlag::Ack, of),
-        _ => Said::Not,
-    }
-}
-
-fn report(n: Numbers) -> Said {
-    if n.number != 3 {
-        return Said::Not;
-    }
-    Said::Is(Body::Report)
-}
-
-fn body(name: &[u8], n: Numbers) -> Said {
     if words::same(name, b"GATE") {
-        return gate(n);
+        return Body::Gate(grants(n));
     }
     if words::same(name, b"DISCOVERY") {
-        return discovery(n);
+        return discovery(of);
     }
     if words::same(name, b"REGISTER") {
-        return register(n);
+        return register(of);
     }
     if words::same(name, b"REGISTER_REQ") {
-        return register_req(n);
+        return register_req(of);
     }
     if words::same(name, b"REGISTER_ACK") {
-        return register_ack(n);
+        return register_ack(of);
     }
-    if words::same(name, b"REPORT") {
-        return report(n);
-    }
-    Said::Not
+    Body::Report
 }
 
-// With the random number, which stands behind a discovery GATE's fields and means nothing to another message.
-pub fn named(name: &[u8], n: Numbers) -> Heard {
+// The names are in capitals, as document 01 writes them, so that a REGISTER is not the client's register.
+pub fn is_named(name: &[u8]) -> bool {
+    let gate = words::same(name, b"GATE") | words::same(name, b"DISCOVERY");
+    let register = words::same(name, b"REGISTER") | words::same(name, b"REPORT");
+    gate | register | words::same(name, b"REGISTER_REQ") | words::same(name, b"REGISTER_ACK")
+}
+
+// Of a name that a message has.
+pub fn message(name: &[u8], n: Numbers) -> Message {
     let of = n.of;
-    let Said::Is(said) = body(name, n) else {
-        return Heard::Not;
-    };
-    let message = Message {
+    Message {
         destination: Address(of[0]),
         source: Address(of[1]),
         timestamp: Count(modulo_32(of[2])),
-        body: said,
-    };
-    Heard::Is(message, modulo_32(of[6]))
+        body: body(name, n),
+    }
 }

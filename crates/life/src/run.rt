@@ -1,5 +1,6 @@
 // The box's calls, each with what is shown of it; the last answer holds the box.
 ghost use Prim.Native.Nat.{_≤_};
+use crate::calls::Ask;
 use crate::calls::Call;
 use crate::calls::Look;
 use crate::hand;
@@ -8,7 +9,6 @@ use crate::tell;
 use floorbox::Answer;
 use floorbox::FloorBox;
 use frame::Address;
-use frame::Message;
 use frame::Reply;
 use telling::Frames;
 use telling::Notice;
@@ -25,6 +25,14 @@ fn fresh(address: Address) -> Answer {
     out::address(own.0);
     out::text(b"\n");
     a
+}
+
+fn answer(b: FloorBox, ask: Ask) -> Answer {
+    match ask {
+        Ask::Register => b.register(),
+        Ask::Deregister => b.deregister(),
+        Ask::Hear(message, random) => b.hear(message, random),
+    }
 }
 
 fn told(a: Answer) -> Answer {
@@ -108,18 +116,17 @@ fn ticks(last: Answer, number: u64) -> Answer {
     a
 }
 
-fn show_sent(frame: &[u8]) {
+fn tell_sent(frame: &[u8]) {
     if frame.len() == 0 {
-        out::text(b" -> nothing\n");
+        out::text(b" nothing");
         return;
     }
     if frame[0] == b'c' {
-        out::text(b" -> control");
+        out::text(b" control");
     } else {
-        out::text(b" -> data");
+        out::text(b" data");
     }
     out::number(frame.len() as u64);
-    out::text(b"\n");
 }
 
 fn at_most(n: u64) -> usize
@@ -131,56 +138,36 @@ fn at_most(n: u64) -> usize
     n as usize
 }
 
+// Frames that their first octet tells apart.
 fn send(b: FloorBox, control: u64, data: u64) {
     let c = [b'c'; LONGEST_FRAME];
     let d = [b'd'; LONGEST_FRAME];
     let m = at_most(control);
     let n = at_most(data);
-    show_sent(b.next_to_send(&c[0..m], &d[0..n]));
+    tell_sent(b.next_to_send(&c[0..m], &d[0..n]));
 }
 
-fn timers(b: FloorBox) {
-    out::text(b" ->");
-    tell::tell_timers(b);
-    out::text(b"\n");
-}
-
-fn octets(last: Answer) {
+fn look(last: Answer, at: Look) -> Answer {
+    let b = last.next;
     let frames = last.frames;
     out::text(b" ->");
-    tell::tell_octets(frames);
-    out::text(b"\n");
-}
-
-fn look(last: Answer, at: Look) {
-    let b = last.next;
     match at {
         Look::Send(control, data) => send(b, control, data),
-        Look::Octets => octets(last),
-        Look::Timers => timers(b),
+        Look::Octets => tell::tell_octets(frames),
+        Look::Timers => tell::tell_timers(b),
+        Look::Nothing => out::text(b" ?"),
     }
-}
-
-fn looked(last: Answer, at: Look) -> Answer {
-    look(last, at);
-    last
-}
-
-fn not_asked(last: Answer) -> Answer {
-    out::text(b" -> ?\n");
+    out::text(b"\n");
     last
 }
 
 pub fn run(last: Answer, call: Call) -> Answer {
     let b = last.next;
     match call {
-        Call::Fresh(address) => return fresh(address),
-        Call::Register => return told(b.register()),
-        Call::Deregister => return told(b.deregister()),
-        Call::Hear(message, random) => return told(b.hear(message, random)),
-        Call::Tick(number) => return ticks(last, number),
-        Call::Hand(part) => return handed(hand::with(b, part)),
-        Call::Look(at) => return looked(last, at),
-        Call::Not => return not_asked(last),
+        Call::Fresh(address) => fresh(address),
+        Call::Ask(ask) => told(answer(b, ask)),
+        Call::Tick(number) => ticks(last, number),
+        Call::Hand(part) => handed(hand::with(b, part)),
+        Call::Look(at) => look(last, at),
     }
 }

@@ -3,7 +3,7 @@ ghost use Prim.Native.Nat.{_+_, _≤_};
 ghost use lib.ListN.{length};
 
 // The most that a call takes: a GATE's addresses, timestamp and four grants.
-const MOST: usize = 15;
+pub const MOST: usize = 15;
 
 // With a digit more a larger number might not fit.
 const LARGEST: u64 = 0xFFFFFFFFFFFFFFF;
