@@ -40,7 +40,7 @@ fn grant(g: Grant) -> bool
     length(long)
 }
 
-fn grants(g: Grants) -> bool
+pub fn grants(g: Grants) -> bool
     ensures { λ r. ⌜ r ≡ fitsAll true (listed g) ⌝ }
 {
     match g {

@@ -1,0 +1,55 @@
+-- Document 01, "Open window": "The window waits the distance (0: inside at once), is inside for its length, then idle." While it waits its
+-- length is kept.
+-- Assumes nothing.
+use Prim.Native.Nat.{ℕ}
+use mathlib.Core.Bool.{Bool, true, false, cond, _&&_}
+use lib.Dec.{eqb, leb}
+use Rattle.clock.specs.Counts.{reach}
+use Rattle.clock.specs.Numbers.{furthest}
+use Rattle.clock.specs.Timers.{runs, ticked}
+use Rattle.clock.specs.declared.Count.{Count}
+use Rattle.clock.specs.declared.Quanta.{Quanta}
+use Rattle.clock.specs.declared.Reach.{Reach}
+use Rattle.clock.specs.declared.Reach.the-variants.{Past, Ahead}
+use Rattle.head.specs.declared.Window.{Window}
+use Rattle.head.specs.declared.Window.the-variants.{Idle, Before, Inside}
+
+-- discovery window 1 to 131,072
+abbrev pub longestWindow : ℕ
+longestWindow = 131072
+
+unfoldable pub fits : Quanta → Bool
+fits length = leb 1 (length .0) && leb (length .0) longestWindow
+
+abbrev pub isIdle : Window → Bool
+isIdle Idle = true
+isIdle (Before t length) = false
+isIdle (Inside t) = false
+
+abbrev pub isInside : Window → Bool
+isInside Idle = false
+isInside (Before t length) = false
+isInside (Inside t) = true
+
+-- inside for its length
+abbrev pub insideFor : Quanta → Window
+insideFor length = Inside (record { left = length .0 })
+
+-- the window waits the distance; a past start is never opened
+abbrev pub openedAt : Reach → Quanta → Window
+openedAt Past length = Idle
+openedAt (Ahead wait) length = cond (eqb (wait .0) 0) (insideFor length) (Before (record { left = wait .0 }) length)
+
+unfoldable pub opened : Count → Count → Quanta → Window
+opened now start length = openedAt (reach (now .0) (start .0)) length
+
+abbrev pub tickedWindow : Window → Window
+tickedWindow Idle = Idle
+tickedWindow (Before t length) = cond (ticked t .rang) (insideFor length) (Before (ticked t .timer) length)
+tickedWindow (Inside t) = cond (ticked t .rang) Idle (Inside (ticked t .timer))
+
+-- head window timer: 1 to 62,500,000 before, 1 to 131,072 inside; a kept length is one that a window may have
+abbrev pub soundWindow : Window → Bool
+soundWindow Idle = true
+soundWindow (Before t length) = runs t furthest && fits length
+soundWindow (Inside t) = runs t longestWindow

@@ -1,0 +1,1 @@
+// The head keeps its promises over every run: see specs/. There is no code.

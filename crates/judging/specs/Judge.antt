@@ -1,0 +1,61 @@
+-- Document 01, "Reply numbers", of the head: 13 and 12 come before all else, then each request's own tests.
+-- Assumes nothing.
+use Prim.Native.Nat.{ℕ, _*_}
+use mathlib.Core.Bool.{Bool, _&&_}
+use mathlib.Core.List.{[], _∷_}
+use lib.Dec.{leb}
+use Rattle.frame.specs.Card.{_unless_}
+use Rattle.frame.specs.declared.Address.{Address}
+use Rattle.frame.specs.declared.Reply.the-variants.{Output, Unsound}
+use Rattle.head.specs.Head.{tickOf, soundOf}
+use Rattle.head.specs.declared.Head.{Head}
+use Rattle.survey.specs.declared.Facts.{Facts}
+use Rattle.survey.specs.declared.Look.{Look}
+use Rattle.table.specs.declared.Event.the-variants.{Tick}
+use Rattle.judging.specs.Client.{openOf, admitOf, rejectOf, reregisterOf, deregisterOf, gateOf}
+use Rattle.judging.specs.Hear.{hearOf}
+use Rattle.judging.specs.Plan.{accepted, given}
+use Rattle.judging.specs.declared.Plan.{Plan}
+use Rattle.judging.specs.declared.Request.{Request}
+
+abbrev lookFor : ℕ → Look
+lookFor link = record { link = link; address = record { 0 = 0 } }
+
+-- what a request asks of the table: a link by its number, or who holds an address
+abbrev pub lookOf : Request → Look
+lookOf (Request.Open start length sync window) = lookFor 0
+lookOf (Request.Admit a pending sync) = record { link = 0; address = a }
+lookOf (Request.Reject a pending sync) = lookFor 0
+lookOf (Request.Reregister link sync) = lookFor link
+lookOf (Request.Deregister link) = lookFor link
+lookOf (Request.Gate link asked) = lookFor link
+lookOf (Request.Hear link m) = lookFor link
+lookOf Request.Tick = lookFor 0
+
+-- tick: count, window, then links in order
+abbrev pub decideOf : Request → Head → Facts → Plan
+decideOf (Request.Open start length sync window) h f = openOf h start length sync window
+decideOf (Request.Admit a pending sync) h f = admitOf h f a pending sync
+decideOf (Request.Reject a pending sync) h f = rejectOf h a pending sync
+decideOf (Request.Reregister link sync) h f = reregisterOf h (f .link) link sync
+decideOf (Request.Deregister link) h f = deregisterOf h (f .link) link
+decideOf (Request.Gate link asked) h f = gateOf h (f .link) link asked
+decideOf (Request.Hear link m) h f = hearOf h (f .link) link m
+decideOf Request.Tick h f = accepted (tickOf h) Tick
+
+-- 13: unsound state or table
+unfoldable pub isSound : Head → Facts → Bool
+isSound h f = soundOf h && f .sound
+
+-- 12: output shorter than 60 × number of links
+unfoldable pub hasRoom : ℕ → ℕ → Bool
+hasRoom links octets = leb (60 * links) octets
+
+-- of the facts that the pass over so many links found, with so many octets of output
+unfoldable pub judgeOf : Head → Facts → ℕ → ℕ → Request → Plan
+judgeOf h f links octets r =
+    given
+    (Unsound unless isSound h f
+    ∷ Output unless hasRoom links octets
+    ∷ [])
+    h (decideOf r h f)

@@ -1,0 +1,4 @@
+pub mod Client
+pub mod Hear
+pub mod Judge
+pub mod Plan

@@ -1,0 +1,4 @@
+pub mod Folds
+pub mod Lending
+pub mod Relent
+pub mod Sharing

@@ -1,0 +1,1 @@
+// What walks over lent slices share: see specs/ and proofs/. There is no code.

@@ -1,0 +1,4 @@
+pub mod Link
+pub mod Sound
+pub mod Steps
+pub mod Tick

@@ -1,0 +1,5 @@
+pub mod Calls
+pub mod Copied
+pub mod Settled
+pub mod Taken
+pub mod Values
