@@ -21,9 +21,13 @@ use Rattle.activation.specs.Activation.{activate}
 use Rattle.floorbox.specs.declared.FloorBox.{FloorBox}
 use Rattle.floorbox.specs.declared.Answer.{Answer}
 
--- the drift is 0 in every reply but that to an accepted message; each refusal changes nothing
+-- a number, and nothing else: the drift is 0 in every reply but that to an accepted message
+abbrev pub bare : FloorBox → Reply → Answer
+bare b r = record { reply = r; drift = pos 0; next = b; frames = noFrames; notices = noNotices }
+
+-- each refusal changes nothing
 abbrev pub refused : FloorBox → Reply → Answer
-refused b r = record { reply = r; drift = pos 0; next = b; frames = noFrames; notices = noNotices }
+refused b r = bare b r
 
 -- the box's frames go from its own address to 01-80-C2-00-00-01 with its count
 abbrev pub messageOf : Address → Count → Body → Message

@@ -11,7 +11,7 @@ use Rattle.registration.specs.Registration.{registering, isWaiting, isRegistere
 use Rattle.processes.specs.Parts.{fresh, withRegistration, still}
 use Rattle.processes.specs.Sound.{soundOf as processesSound}
 use Rattle.ticking.specs.Tick.{localDeregister, tickOf as processesTick}
-use Rattle.floorbox.specs.Answer.{refused, accepted, given}
+use Rattle.floorbox.specs.Answer.{bare, refused, accepted, given}
 use Rattle.floorbox.specs.declared.FloorBox.{FloorBox}
 use Rattle.floorbox.specs.declared.Answer.{Answer}
 
@@ -23,7 +23,7 @@ soundOf b = isIndividual (b .address) && processesSound (b .processes)
 unfoldable pub freshOf : Address → Answer
 freshOf a =
     cond (isIndividual a)
-    (refused (record { address = a; processes = fresh }) Done)
+    (bare (record { address = a; processes = fresh }) Done)
     (refused (record { address = record { 0 = 0 }; processes = fresh }) Range)
 
 -- register in WAIT goes to REGISTERING; else 7

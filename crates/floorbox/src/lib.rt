@@ -1,7 +1,6 @@
 // The floor box: document 01's box, with an own address, and its calls. Each answers every input.
 ghost use mathlib.Core.Path.{_≡_};
-ghost use lib.IntN.{pos};
-ghost use Rattle.floorbox.specs.Answer.{refused, framed, accepted};
+ghost use Rattle.floorbox.specs.Answer.{bare, refused, framed, accepted};
 ghost use Rattle.floorbox.specs.Box.{soundOf, freshOf, registerOf, deregisterOf, tickOf};
 ghost use Rattle.floorbox.specs.Hear.{isFromHead, isDiscovery, isFor, heardOf, hearOf};
 ghost use Rattle.floorbox.specs.Send.{remaining, fitsIn, sendOf};
@@ -13,7 +12,6 @@ use frame::Reply;
 use light::Light;
 use processes::Processes;
 use processes::Step;
-use registration::State;
 use telling::Frames;
 use telling::Notices;
 use telling::Sent;
@@ -40,7 +38,7 @@ impl FloorBox {
         let processes = Processes::fresh();
         if range::individual(address) {
             let ready = FloorBox { address, processes };
-            return ready.refused(Reply::Done);
+            return ready.bare(Reply::Done);
         }
         let nobody = Address(0);
         let blank = FloorBox {
@@ -58,9 +56,9 @@ impl FloorBox {
         range::individual(address) & processes.sound()
     }
 
-    // A refusal changes nothing.
-    fn refused(self, reply: Reply) -> Answer
-        ensures { λ r. ⌜ r ≡ refused self reply ⌝ }
+    // A number, and nothing else.
+    fn bare(self, reply: Reply) -> Answer
+        ensures { λ r. ⌜ r ≡ bare self reply ⌝ }
     {
         Answer {
             reply,
@@ -69,6 +67,13 @@ impl FloorBox {
             frames: Frames::none(),
             notices: Notices::none(),
         }
+    }
+
+    // A refusal changes nothing.
+    fn refused(self, reply: Reply) -> Answer
+        ensures { λ r. ⌜ r ≡ refused self reply ⌝ }
+    {
+        self.bare(reply)
     }
 
     // The frames of a box go from its own address to 01-80-C2-00-00-01 with its count.

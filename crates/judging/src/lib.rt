@@ -1,6 +1,5 @@
 // The head's judgement of a call: the number, and what is to be done, before anything is changed.
 ghost use mathlib.Core.Path.{_≡_};
-ghost use Prim.Native.Nat.{ℕ};
 ghost use Rattle.judging.specs.Plan.{quiet, refused, accepted, sending, telling};
 ghost use Rattle.judging.specs.Client.{fitsLengths, mayOpen, openOf, fitsParty, admitOf, rejectOf, reregisterOf, deregisterOf, gateOf};
 ghost use Rattle.judging.specs.Hear.{isFromBox, asksToRegister, isNewcomer, isFor, onLink, inState, byParty, left, confirmed, reported, requested, heardOf, hearOf};

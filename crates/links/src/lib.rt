@@ -1,8 +1,7 @@
 // One link of the head's table, by value: its states, its timers, and what each of its steps sends.
 ghost use mathlib.Core.Path.{_≡_};
-ghost use mathlib.Core.List.{[], _∷_};
 ghost use Rattle.links.specs.Link.{idle, waitingAt, registeredAt, isHeld, isRegistered};
-ghost use Rattle.links.specs.Sound.{soundIn, soundOf};
+ghost use Rattle.links.specs.Sound.{soundOf};
 ghost use Rattle.links.specs.Steps.{still, admitted, reregistered, deregistered, gated, registered, reported, changeOf};
 ghost use Rattle.links.specs.Tick.{tickWait, tickPeriodic, tickWatchdog, tickOf};
 use clock::Quanta;

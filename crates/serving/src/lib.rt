@@ -1,9 +1,7 @@
 // The head's calls, over the table of links and the output that the caller lends. Each answers every input.
 ghost use mathlib.Core.Path.{_≡_};
-ghost use Prim.Native.Nat.{ℕ};
 ghost use Rattle.serving.specs.Fresh.{begunOf, isDone, clearing, freshly, freshOf};
 ghost use Rattle.serving.specs.Serve.{senderOf, answerOf, served, serveOf};
-use clock::Count;
 use frame::Address;
 use frame::Reply;
 use head::Head;

@@ -1,7 +1,6 @@
 // One pass over the lent table that changes nothing: whether it is sound, and what a call asks of it.
 ghost use mathlib.Core.Path.{_≡_};
-ghost use mathlib.Core.Bool.{Bool, true, false};
-ghost use Prim.Native.Nat.{ℕ, _+_, _<_, _≤_};
+ghost use Prim.Native.Nat.{_≤_};
 ghost use lib.ListN.{length};
 ghost use Rattle.survey.specs.Facts.{isFew, holds, factsOf};
 ghost use Rattle.survey.specs.Pass.{turnsOf, begun, spanOf, metOf, repeatsOf, soundStill, heldStill, idleStill, linkStill, seenOf};

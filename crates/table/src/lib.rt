@@ -1,15 +1,13 @@
 // The lent table and the lent output: one event offered to every link in order, and the frames that come of it.
 ghost use mathlib.Core.Path.{_≡_};
-ghost use mathlib.Core.Bool.{Bool, true, false};
-ghost use Prim.Native.Nat.{ℕ, _+_, _%_, _<_, _≤_};
+ghost use Prim.Native.Nat.{_+_, _<_};
 ghost use lib.ListN.{length, getD, set};
 ghost use Rattle.lent.specs.Folds.{each};
 ghost use Rattle.links.specs.Link.{idle};
 ghost use Rattle.table.specs.Events.{portOf, reactOf, drivenOf, turnsOf};
-ghost use Rattle.table.specs.Output.{output, pasted, messageOf, noteOf, noteLink};
+ghost use Rattle.table.specs.Output.{output, pasted, noteOf, noteLink};
 use clock::Count;
 use frame::Address;
-use frame::Body;
 use frame::Message;
 use links::Change;
 use links::Link;

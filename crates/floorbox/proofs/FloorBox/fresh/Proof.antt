@@ -11,27 +11,27 @@ fresh-requires c κs = search needs
 individual-requires : tie.Need-individual-requires
 individual-requires c κs = search needs
 
-refused-requires : tie.Need-refused-requires
-refused-requires c κs = search needs
+bare-requires : tie.Need-bare-requires
+bare-requires c κs = search needs
 
 returns : tie.Need-returns
 unfolding freshOf
 returns c =
     rw (
-      c .refused .ensures,
+      c .bare .ensures,
       ← c .before .before .before .fresh .ensures,
       ← c .before .before .individual .ensures,
       c .before .if1 .taken,
     )
 
-refused-requires-2 : tie.Need-refused-requires-2
-refused-requires-2 c κs = search needs
+refused-requires : tie.Need-refused-requires
+refused-requires c κs = search needs
 
 returns-2 : tie.Need-returns-2
 unfolding freshOf
 returns-2 c =
     rw (
-      c .refused2 .ensures,
+      c .refused .ensures,
       ← c .before .before .before .fresh .ensures,
       ← c .before .before .individual .ensures,
       c .before .if1 .left,
@@ -43,7 +43,7 @@ fresh-spec =
     (tie.spec
     fresh-requires
     individual-requires
-    refused-requires
+    bare-requires
     returns
-    refused-requires-2
+    refused-requires
     returns-2)
