@@ -28,11 +28,11 @@ use Rattle.survey.specs.Facts.{isFew, soundTable, factsOf}
 use Rattle.survey.specs.declared.Facts.{Facts}
 use Rattle.survey.specs.declared.Look.{Look}
 use Rattle.table.specs.declared.Event.{Event}
-use Rattle.judging.specs.Client.{fitsLengths, mayOpen, openOf, fitsParty, admitOf, rejectOf, reregisterOf, deregisterOf, gateOf}
-use Rattle.judging.specs.Hear.{isFromBox, onLink, inState, byParty, heardOf, hearOf}
+use Rattle.requests.specs.Client.{fitsLengths, mayOpen, openOf, fitsParty, admitOf, rejectOf, reregisterOf, deregisterOf, gateOf}
+use Rattle.heeding.specs.Hear.{isFromBox, onLink, inState, byParty, heardOf, hearOf}
 use Rattle.judging.specs.Judge.{lookOf, decideOf, isSound, hasRoom, judgeOf}
-use Rattle.judging.specs.Plan.{refused, accepted, sending, given}
-use Rattle.judging.specs.declared.Plan.{Plan}
+use Rattle.plans.specs.Plan.{refused, accepted, sending, given}
+use Rattle.plans.specs.declared.Plan.{Plan}
 use Rattle.judging.specs.declared.Request.{Request}
 use Rattle.serving.specs.Serve.{planOf}
 

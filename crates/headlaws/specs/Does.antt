@@ -22,8 +22,8 @@ use Rattle.table.specs.Events.{portOf, drivenOf}
 use Rattle.table.specs.declared.Event.{Event}
 use Rattle.table.specs.declared.Sender.{Sender}
 use Rattle.judging.specs.Judge.{lookOf}
-use Rattle.judging.specs.declared.Notice.{Notice}
-use Rattle.judging.specs.declared.Plan.{Plan}
+use Rattle.plans.specs.declared.Notice.{Notice}
+use Rattle.plans.specs.declared.Plan.{Plan}
 use Rattle.judging.specs.declared.Request.{Request}
 use Rattle.serving.specs.Serve.{doneOf, serveOf}
 use Rattle.headlaws.specs.Calls.{planned, known}

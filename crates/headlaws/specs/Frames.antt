@@ -19,7 +19,7 @@ use Rattle.table.specs.Events.{reactOf}
 use Rattle.table.specs.Output.{messageOf, noteOf, noteLink}
 use Rattle.table.specs.declared.Event.{Event}
 use Rattle.table.specs.declared.Sender.{Sender}
-use Rattle.judging.specs.declared.Plan.{Plan}
+use Rattle.plans.specs.declared.Plan.{Plan}
 use Rattle.serving.specs.Serve.{senderOf, sentOf}
 use Rattle.headlaws.specs.Pasted.{packed, pasted-packed}
 use Rattle.headlaws.specs.Sends.{SentFits, EventFits, react-sends}

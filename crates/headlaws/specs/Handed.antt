@@ -21,8 +21,8 @@ use Rattle.survey.specs.declared.Facts.{Facts}
 use Rattle.table.specs.Output.{Output, output}
 use Rattle.table.specs.declared.Event.{Event}
 use Rattle.judging.specs.Judge.{hasRoom}
-use Rattle.judging.specs.Plan.{refused}
-use Rattle.judging.specs.declared.Plan.{Plan}
+use Rattle.plans.specs.Plan.{refused}
+use Rattle.plans.specs.declared.Plan.{Plan}
 use Rattle.judging.specs.declared.Request.{Request}
 use Rattle.serving.specs.Serve.{senderOf, sentOf, doneOf, planOf, serveOf}
 use Rattle.headlaws.specs.Calls.{tests, planned, Passed, known, Outcome, unsound, short, refuses, accepts, outcome}

@@ -20,8 +20,8 @@ use Rattle.links.specs.declared.Change.{Change}
 use Rattle.links.specs.declared.Link.{Link}
 use Rattle.links.specs.declared.Sent.{Sent}
 use Rattle.table.specs.declared.Event.{Event}
-use Rattle.judging.specs.Hear.{onLink, left, confirmedBy, confirmed, reported, requested, heardOf}
-use Rattle.judging.specs.declared.Plan.{Plan}
+use Rattle.heeding.specs.Hear.{onLink, left, confirmedBy, confirmed, reported, requested, heardOf}
+use Rattle.plans.specs.declared.Plan.{Plan}
 use Rattle.headlaws.specs.Steps.{Allowed}
 
 -- the changes that a message can make, and of which link

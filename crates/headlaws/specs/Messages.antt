@@ -24,11 +24,11 @@ use Rattle.links.specs.declared.Sent.{Sent}
 use Rattle.survey.specs.Facts.{linkFrom}
 use Rattle.table.specs.Output.{messageOf}
 use Rattle.table.specs.declared.Event.{Event}
-use Rattle.judging.specs.Hear.{isNewcomer, onLink, left, confirmed, reported, heardOf}
+use Rattle.heeding.specs.Hear.{isNewcomer, onLink, left, confirmed, reported, heardOf}
 use Rattle.judging.specs.Judge.{lookOf}
-use Rattle.judging.specs.Plan.{quiet, telling}
-use Rattle.judging.specs.declared.Kind.{Kind}
-use Rattle.judging.specs.declared.Notice.{Notice}
+use Rattle.plans.specs.Plan.{quiet, telling}
+use Rattle.plans.specs.declared.Kind.{Kind}
+use Rattle.plans.specs.declared.Notice.{Notice}
 use Rattle.judging.specs.declared.Request.{Request}
 use Rattle.serving.specs.Serve.{serveOf}
 use Rattle.headlaws.specs.Calls.{planned, known}

@@ -20,8 +20,8 @@ use Rattle.survey.specs.declared.Facts.{Facts}
 use Rattle.table.specs.Output.{output, noteLink, Output as Written}
 use Rattle.table.specs.declared.Event.{Event}
 use Rattle.table.specs.declared.Sender.{Sender}
-use Rattle.judging.specs.Plan.{quiet, refused, given}
-use Rattle.judging.specs.declared.Plan.{Plan}
+use Rattle.plans.specs.Plan.{quiet, refused, given}
+use Rattle.plans.specs.declared.Plan.{Plan}
 use Rattle.judging.specs.declared.Request.{Request}
 use Rattle.serving.specs.Serve.{served, senderOf, sentOf, doneOf, planOf, serveOf}
 use Rattle.serving.specs.declared.Answer.{Answer}

@@ -33,9 +33,9 @@ use Rattle.links.specs.declared.Stepped.{Stepped}
 use Rattle.survey.specs.Facts.{idleFrom, linkFrom, soundTable}
 use Rattle.table.specs.Output.{messageOf}
 use Rattle.table.specs.declared.Event.{Event}
-use Rattle.judging.specs.Client.{fitsParty}
+use Rattle.requests.specs.Client.{fitsParty}
 use Rattle.judging.specs.Judge.{lookOf, hasRoom}
-use Rattle.judging.specs.Plan.{quiet, accepted}
+use Rattle.plans.specs.Plan.{quiet, accepted}
 use Rattle.judging.specs.declared.Request.{Request}
 use Rattle.serving.specs.Serve.{serveOf}
 use Rattle.headlaws.specs.Calls.{known, allTests}

@@ -19,7 +19,7 @@ use Rattle.head.specs.declared.Head.{Head}
 use Rattle.links.specs.declared.Link.{Link}
 use Rattle.survey.specs.Facts.{isFew, soundTable}
 use Rattle.judging.specs.Judge.{hasRoom}
-use Rattle.judging.specs.declared.Plan.{Plan}
+use Rattle.plans.specs.declared.Plan.{Plan}
 use Rattle.judging.specs.declared.Request.{Request}
 use Rattle.serving.specs.Fresh.{freshOf}
 use Rattle.serving.specs.Serve.{served, doneOf, planOf, serveOf}

@@ -32,7 +32,7 @@ use Rattle.links.specs.declared.Stepped.{Stepped}
 use Rattle.survey.specs.declared.Facts.{Facts}
 use Rattle.table.specs.Events.{portOf, reactOf}
 use Rattle.table.specs.declared.Event.{Event}
-use Rattle.judging.specs.Client.{fitsLengths, fitsParty}
+use Rattle.requests.specs.Client.{fitsLengths, fitsParty}
 use Rattle.judging.specs.declared.Request.{Request}
 use Rattle.headlaws.specs.Calls.{tests, planned, Passed}
 use Rattle.headlaws.specs.Heard.{ByMessage, Heeds, heard-message}

@@ -20,9 +20,9 @@ use Rattle.survey.specs.declared.Facts.{Facts}
 use Rattle.survey.specs.declared.Look.{Look}
 use Rattle.table.specs.Events.{drivenOf}
 use Rattle.table.specs.declared.Event.{Event}
-use Rattle.judging.specs.Client.{fitsParty}
+use Rattle.requests.specs.Client.{fitsParty}
 use Rattle.judging.specs.Judge.{lookOf}
-use Rattle.judging.specs.declared.Plan.{Plan}
+use Rattle.plans.specs.declared.Plan.{Plan}
 use Rattle.judging.specs.declared.Request.{Request}
 use Rattle.serving.specs.Fresh.{freshOf}
 use Rattle.serving.specs.Serve.{doneOf, planOf, serveOf}

@@ -22,7 +22,7 @@ use Rattle.links.specs.declared.State.the-variants.{Waiting, Registered}
 use Rattle.survey.specs.Facts.{linkFrom}
 use Rattle.table.specs.Events.{portOf, reacted, drivenOf}
 use Rattle.table.specs.declared.Event.{Event}
-use Rattle.judging.specs.declared.Plan.{Plan}
+use Rattle.plans.specs.declared.Plan.{Plan}
 use Rattle.judging.specs.declared.Request.{Request}
 use Rattle.serving.specs.Serve.{doneOf, planOf, serveOf}
 use Rattle.headlaws.specs.Calls.{planned, known}

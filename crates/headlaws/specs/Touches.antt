@@ -22,7 +22,7 @@ use Rattle.survey.specs.Facts.{linkFrom}
 use Rattle.table.specs.Events.{reacted, drivenOf}
 use Rattle.table.specs.declared.Event.{Event}
 use Rattle.table.specs.declared.Sender.{Sender}
-use Rattle.judging.specs.declared.Plan.{Plan}
+use Rattle.plans.specs.declared.Plan.{Plan}
 use Rattle.judging.specs.declared.Request.{Request}
 use Rattle.serving.specs.Serve.{senderOf, doneOf, planOf, serveOf}
 use Rattle.headlaws.specs.Calls.{tests, planned, Passed, known, Outcome, unsound, short, refuses, accepts, outcome}

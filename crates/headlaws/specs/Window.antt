@@ -22,7 +22,7 @@ use Rattle.head.specs.Window.{longestWindow, fits, insideFor, openedAt, opened,
 use Rattle.head.specs.declared.Head.{Head}
 use Rattle.head.specs.declared.Window.{Window}
 use Rattle.head.specs.declared.Window.the-variants.{Idle, Before, Inside}
-use Rattle.judging.specs.Client.{mayOpen}
+use Rattle.requests.specs.Client.{mayOpen}
 
 inside-sound : (length : Quanta) → fits length ≡ true → soundWindow (insideFor length) ≡ true
 unfolding fits runs

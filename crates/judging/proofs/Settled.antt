@@ -2,15 +2,10 @@
 -- Assumes nothing.
 use mathlib.Core.Path.{sym, _∙_}
 use Rattle.laws.specs.Settles.{Settles}
-use Rattle.judging.proofs.Notice.quiet.Kinds as quiet-kinds
-use Rattle.judging.proofs.Notice.quiet.Reads as quiet
 use Rattle.judging.proofs.look.Kinds as look-kinds
 use Rattle.judging.proofs.look.Reads as look
 use Rattle.judging.proofs.judge.Kinds as judge-kinds
 use Rattle.judging.proofs.judge.Reads as judge
-
-pub quiet-settles : Settles 0 quiet-kinds.ps quiet-kinds.r quiet.Post
-quiet-settles κs a e x y p q = p ∙ sym q
 
 pub look-settles : Settles 0 look-kinds.ps look-kinds.r look.Post
 look-settles κs a e x y p q = p ∙ sym q

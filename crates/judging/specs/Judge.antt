@@ -12,13 +12,13 @@ use Rattle.head.specs.declared.Head.{Head}
 use Rattle.survey.specs.declared.Facts.{Facts}
 use Rattle.survey.specs.declared.Look.{Look}
 use Rattle.table.specs.declared.Event.the-variants.{Tick}
-use Rattle.judging.specs.Client.{openOf, admitOf, rejectOf, reregisterOf, deregisterOf, gateOf}
-use Rattle.judging.specs.Hear.{hearOf}
-use Rattle.judging.specs.Plan.{accepted, given}
-use Rattle.judging.specs.declared.Plan.{Plan}
+use Rattle.requests.specs.Client.{openOf, admitOf, rejectOf, reregisterOf, deregisterOf, gateOf}
+use Rattle.heeding.specs.Hear.{hearOf}
+use Rattle.plans.specs.Plan.{accepted, given}
+use Rattle.plans.specs.declared.Plan.{Plan}
 use Rattle.judging.specs.declared.Request.{Request}
 
-abbrev lookFor : ℕ → Look
+abbrev pub lookFor : ℕ → Look
 lookFor link = record { link = link; address = record { 0 = 0 } }
 
 -- what a request asks of the table: a link by its number, or who holds an address

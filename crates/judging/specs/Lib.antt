@@ -1,4 +1,1 @@
-pub mod Client
-pub mod Hear
 pub mod Judge
-pub mod Plan

@@ -34,7 +34,7 @@ use Rattle.survey.specs.declared.Facts.{Facts}
 use Rattle.frame.specs.declared.Address.{Address}
 use Rattle.head.specs.declared.Head.{Head}
 use Rattle.judging.specs.declared.Request.{Request}
-use Rattle.judging.specs.declared.Plan.{Plan}
+use Rattle.plans.specs.declared.Plan.{Plan}
 use Rattle.serving.specs.declared.Answer.{Answer}
 use Rattle.lent.specs.Folds.{each}
 use Rattle.survey.specs.Facts.{factsOf}

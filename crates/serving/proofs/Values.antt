@@ -21,9 +21,9 @@ use Rattle.head.proofs.Head.Laws as T-Head′
 use Rattle.judging.specs.declared.Request.{Request}
 use Rattle.judging.proofs.Request as T-Request
 use Rattle.judging.proofs.Request.Laws as T-Request′
-use Rattle.judging.specs.declared.Plan.{Plan}
-use Rattle.judging.proofs.Plan as T-Plan
-use Rattle.judging.proofs.Plan.Laws as T-Plan′
+use Rattle.plans.specs.declared.Plan.{Plan}
+use Rattle.plans.proofs.Plan as T-Plan
+use Rattle.plans.proofs.Plan.Laws as T-Plan′
 
 -- ---- Answer
 abbrev pub Answer-row : RattleType

@@ -17,7 +17,7 @@ use Rattle.links.specs.Link.{idle}
 use Rattle.links.specs.declared.Link.{Link}
 use Rattle.survey.specs.Facts.{isFew}
 use Rattle.table.specs.declared.Event.{Event}
-use Rattle.judging.specs.Plan.{quiet}
+use Rattle.plans.specs.Plan.{quiet}
 use Rattle.serving.specs.declared.Answer.{Answer}
 
 -- the answer, and what then stands in the table

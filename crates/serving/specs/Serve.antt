@@ -11,7 +11,7 @@ use Rattle.table.specs.Events.{drivenOf}
 use Rattle.table.specs.Output.{Output, output, noteOf, noteLink}
 use Rattle.table.specs.declared.Sender.{Sender}
 use Rattle.judging.specs.Judge.{lookOf, judgeOf}
-use Rattle.judging.specs.declared.Plan.{Plan}
+use Rattle.plans.specs.declared.Plan.{Plan}
 use Rattle.judging.specs.declared.Request.{Request}
 use Rattle.serving.specs.declared.Answer.{Answer}
 

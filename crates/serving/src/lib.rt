@@ -5,11 +5,11 @@ ghost use Rattle.serving.specs.Serve.{senderOf, answerOf, served, serveO
 use frame::Address;
 use frame::Reply;
 use head::Head;
-use judging::Notice;
-use judging::Plan;
 use judging::Request;
 use links::Link;
 use links::Sent;
+use plans::Notice;
+use plans::Plan;
 use table::Event;
 use table::Sender;
 

@@ -55,7 +55,7 @@ use Rattle.table.specs.declared.Event.{Event}
 use Rattle.table.specs.declared.Sender.{Sender}
 use Rattle.head.specs.declared.Head.{Head}
 use Rattle.judging.specs.Judge.{lookOf, judgeOf}
-use Rattle.judging.specs.declared.Plan.{Plan}
+use Rattle.plans.specs.declared.Plan.{Plan}
 use Rattle.judging.specs.declared.Request.{Request}
 use Rattle.serving.specs.Serve.{served, planOf, senderOf, sentOf, answerOf, doneOf, serveOf}
 use Rattle.serving.specs.declared.Answer.{Answer}
@@ -65,7 +65,7 @@ use Rattle.survey.proofs.Look.Laws as M-Look
 use Rattle.table.proofs.Event.Laws as M-Event
 use Rattle.table.proofs.Sender.Laws as M-Sender
 use Rattle.head.proofs.Head.Laws as M-Head
-use Rattle.judging.proofs.Plan.Laws as M-Plan
+use Rattle.plans.proofs.Plan.Laws as M-Plan
 use Rattle.judging.proofs.Request.Laws as M-Request
 use Rattle.serving.proofs.Answer.Laws as M-Answer
 use Rattle.links.proofs.Values.{Link-row, Sent-row, Sent-mach, Sent-typed}

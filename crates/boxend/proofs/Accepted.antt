@@ -1,0 +1,30 @@
+-- Of a box that holds what every reached one does, a tick is accepted, and so is a message of the head that is for it.
+-- Assumes nothing.
+use Prim.Native.Nat.{ℕ}
+use mathlib.Core.Path.{_≡_}
+use mathlib.Core.Bool.{true}
+use Rattle.frame.specs.Range.{Valid}
+use Rattle.frame.specs.declared.Message.{Message}
+use Rattle.range.specs.Fits.{of-valid}
+use Rattle.floorbox.specs.Answer.{accepted}
+use Rattle.floorbox.specs.Box.{soundOf, tickOf}
+use Rattle.floorbox.specs.Hear.{isFromHead, isFor, heardOf, hearOf}
+use Rattle.floorbox.specs.declared.FloorBox.{FloorBox}
+use Rattle.boxlaws.specs.Calls.{hear, tick, answer, step, drift}
+use Rattle.boxlaws.specs.Runs.{Holds}
+use Rattle.boxlaws.specs.Sound.{sound-test}
+use Rattle.boxlaws.specs.Steady.{tick-ok}
+
+module _ (b : FloorBox) (h : Holds b) where
+  sound : soundOf b ≡ true
+  unfolding soundOf
+  sound = rw (h .address, sound-test (h .processes .sound))
+
+  pub tick-accepted : answer tick b ≡ accepted b (drift tick b) (step tick b)
+  unfolding tickOf
+  tick-accepted = rw (sound, tick-ok (b .processes) (h .processes))
+
+  pub hear-accepted : (m : Message) (random : ℕ) → Valid m → isFromHead (m .body) ≡ true → isFor b (m .destination) (m .body) ≡ true
+      → answer (hear m random) b ≡ accepted b (drift (hear m random) b) (step (hear m random) b)
+  unfolding heardOf hearOf
+  hear-accepted m random v f i = rw (sound, f, i, of-valid m v)

@@ -1,0 +1,80 @@
+-- A call of the box is one of the pair's steps if its own step, should it be accepted, moves the registration as it may.
+-- Assumes nothing.
+use Prim.Native.Nat.{ℕ, _^_, _<_}
+use mathlib.Core.Path.{_≡_, ap}
+use mathlib.Core.Bool.{Bool}
+use native.Mathlib.Omega.{arith}
+use lib.Dec.{eqb}
+use Rattle.clock.specs.Counts.{nextOf}
+use Rattle.frame.specs.declared.Address.{Address}
+use Rattle.range.specs.Fits.{valid-of}
+use Rattle.processes.specs.Parts.{withCount}
+use Rattle.floorbox.specs.Answer.{accepted}
+use Rattle.floorbox.specs.declared.Answer.{Answer}
+use Rattle.floorbox.specs.declared.FloorBox.{FloorBox}
+use Rattle.boxlaws.specs.Calls.{Call, register, deregister, hear, tick, answer, tests, step, drift, Passed, Outcome, unsound, refuses, accepts}
+use Rattle.boxlaws.specs.Frames.{CallTyped, countAfter, call-frames}
+use Rattle.boxlaws.specs.Sends.{tick-sends, hear-sends}
+use Rattle.boxlaws.specs.Steady.{call-steady}
+use Rattle.wire.specs.Restarts.{upRestarts}
+use Rattle.pairlaw.specs.Run.{HasRegistered}
+use Rattle.pairlaw.specs.Laws.{Step}
+use Rattle.pairlaw.proofs.Steps.{same}
+use Rattle.boxend.specs.End.{told, BoxEnd}
+use Rattle.boxend.proofs.Activated.{activate-leaves}
+use Rattle.boxend.proofs.Gauge.{Ok, gauge}
+use Rattle.boxend.proofs.Moves.{Moves, MovedBy}
+use Rattle.boxend.proofs.Silent.{mute-frames}
+
+-- the count stays one
+step-count : (c : Call) (b : FloorBox) → CallTyped c → Passed (tests c b) → b .processes .count .0 < 2 ^ 32 → step c b .next .count .0 < 2 ^ 32
+unfolding nextOf
+step-count register b t h k = k
+step-count deregister b t h k = k
+step-count (hear m random) b t h k =
+    let own = eqb (m .destination .0) (b .address .0) in
+    rw (hear-sends (m .body) (withCount (b .processes) (m .timestamp)) own random (valid-of m t (h .1 .1 .0) .body) .count) (t .0)
+step-count tick b t h k = rw (tick-sends (b .processes) .count) (omega arith)
+
+-- after an accepted call the registration is that of its step
+pub next-registration : (c : Call) (b : FloorBox) → answer c b ≡ accepted b (drift c b) (step c b)
+    → answer c b .next .processes .registration ≡ step c b .next .registration
+unfolding accepted
+next-registration c b e = rw e (activate-leaves (step c b .next) .1)
+
+module _ (A : Address) where
+  abbrev pub Does : ℕ → Bool → FloorBox → Answer → Type 0
+  Does loss kept b x = Step (BoxEnd A) (gauge A) (HasRegistered (BoxEnd A)) upRestarts loss kept b (told x)
+
+  module _ (c : Call) (b : FloorBox) (o : Ok A b) (t : CallTyped c) where
+    module _ (h : Passed (tests c b)) (e : answer c b ≡ accepted b (drift c b) (step c b)) where
+      next-ok : Ok A (answer c b .next)
+      unfolding accepted
+      next-ok =
+          record {
+            address = rw e (o .address);
+            holds = record { address = rw e (o .holds .address); processes = call-steady c b (o .holds .processes) };
+            count = rw (e, activate-leaves (step c b .next) .0) (step-count c b t h (o .count));
+          }
+
+      pub accepted-does : {loss : ℕ} {kept : Bool} → MovedBy loss kept (b .processes .registration) (step c b) → Does loss kept b (answer c b)
+      unfolding accepted
+      accepted-does {loss} {kept} m =
+          let f = call-frames c b t (o .count) (ap (λ (x : Answer). x .reply) e) in
+          let n : Moves loss kept (b .processes .registration) (answer c b .next .processes .registration) (step c b .first) (step c b .second) =
+          rw (next-registration c b e) m in
+          record {
+            ok = next-ok;
+            dog-falls = λ k _ r. n .dog k r;
+            wait-falls = λ _ w v. n .wait w v;
+            silent = λ q v.
+                let g = n .mute (λ r. q (tt, r)) (λ r. v (tt, r)) in
+                mute-frames (b .address) (countAfter c b) (step c b .first) (step c b .second) (answer c b .frames) f (g .0) (g .1);
+          }
+
+    -- a refusal changes nothing
+    pub call-does : {kept : Bool} → (Passed (tests c b) → MovedBy 0 kept (b .processes .registration) (step c b)) → Outcome c b (answer c b)
+        → Does 0 kept b (answer c b)
+    call-does f (unsound s e) = rw e (same o)
+    call-does f (refuses s r n k e) = rw e (same o)
+    call-does f (accepts s h e) = accepted-does h e (f h)

@@ -1,0 +1,14 @@
+pub mod Activated
+pub mod Typed
+pub mod Gauge
+pub mod Moves
+pub mod Hears
+pub mod Timed
+pub mod Transmitted
+pub mod Ticks
+pub mod Silent
+pub mod Accepted
+pub mod Calls
+pub mod Laws
+pub mod Exact
+pub mod Spoiled

@@ -1,0 +1,13 @@
+pub mod Octets
+pub mod Timers
+pub mod Links
+pub mod Table
+pub mod Messages
+pub mod Plans
+pub mod Fresh
+pub mod Head
+pub mod Ready
+pub mod Exact
+pub mod Heard
+pub mod Once
+pub mod Asked

@@ -1,0 +1,28 @@
+-- `heeding::left` meets its promise.
+-- Assumes nothing.
+use borrow.Author.Needs.{needs}
+use Rattle.heeding.specs.Hear.{left}
+use Rattle.heeding.proofs.left.Statement.{statement}
+use Rattle.heeding.proofs.left.Tie as tie
+
+is-registered-requires : tie.Need-is-registered-requires
+is-registered-requires c κs = search needs
+
+telling-requires : tie.Need-telling-requires
+telling-requires c κs = search needs
+
+returns : tie.Need-returns
+unfolding left
+returns c = rw (c .telling .ensures, ← c .before .before .is-registered .ensures, c .before .if1 .taken)
+
+accepted-requires : tie.Need-accepted-requires
+accepted-requires c κs = search needs
+
+returns-2 : tie.Need-returns-2
+unfolding left
+returns-2 c = rw (c .accepted .ensures, ← c .before .before .is-registered .ensures, c .before .if1 .left)
+
+pub left-spec : {M : Type 1} → statement M
+left-spec =
+    tie.close
+    (tie.spec is-registered-requires telling-requires returns accepted-requires returns-2)

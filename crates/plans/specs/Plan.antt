@@ -1,0 +1,41 @@
+-- What a call of the head is going to do: a refusal changes nothing; of a list of tests the first that is not passed gives the number.
+-- Assumes nothing.
+use Prim.Native.Nat.{ℕ}
+use mathlib.Core.Bool.{cond}
+use mathlib.Core.List.{List, [], _∷_}
+use Rattle.clock.specs.declared.Quanta.{Quanta}
+use Rattle.frame.specs.Card.{Test, _unless_}
+use Rattle.frame.specs.declared.Address.{Address}
+use Rattle.frame.specs.declared.Body.{Body}
+use Rattle.frame.specs.declared.Reply.{Reply}
+use Rattle.frame.specs.declared.Reply.the-variants.{Done}
+use Rattle.links.specs.declared.Sent.{Sent}
+use Rattle.table.specs.declared.Event.{Event}
+use Rattle.head.specs.declared.Head.{Head}
+use Rattle.plans.specs.declared.Kind.{Kind}
+use Rattle.plans.specs.declared.Notice.{Notice}
+use Rattle.plans.specs.declared.Plan.{Plan}
+
+abbrev pub quiet : Notice
+quiet = record { kind = Kind.Nothing; link = 0; trip = record { 0 = 0 } }
+
+abbrev pub refused : Head → Reply → Plan
+refused h r = record { reply = r; head = h; event = Event.Nothing; lead = Sent.Nothing; notice = quiet }
+
+-- client requests and ticks give no notices
+abbrev pub accepted : Head → Event → Plan
+accepted h e = record { reply = Done; head = h; event = e; lead = Sent.Nothing; notice = quiet }
+
+-- the head's own frame
+abbrev pub sending : Head → Address → Body → Plan
+sending h a body = record { reply = Done; head = h; event = Event.Nothing; lead = Sent.To a body; notice = quiet }
+
+-- notices, each with link and round trip
+abbrev pub telling : Head → Event → Kind → ℕ → Quanta → Plan
+telling h e kind link trip =
+    record { reply = Done; head = h; event = e; lead = Sent.Nothing; notice = record { kind = kind; link = link; trip = trip } }
+
+-- of a list of tests the first that is not passed gives the answer
+abbrev pub given : List Test → Head → Plan → Plan
+given [] h p = p
+given (r unless t ∷ ts) h p = cond t (given ts h p) (refused h r)
