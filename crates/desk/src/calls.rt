@@ -1,9 +1,8 @@
-// What a line asks for.
+// Which call a line asks for.
 use crate::hand;
-use crate::hand::Handed;
-use crate::hand::Part;
 use crate::requests;
-use crate::requests::Asked;
+use crate::run;
+use crate::state::Desk;
 use bytes::scan;
 use frame::Address;
 use judging::Request;
@@ -12,94 +11,80 @@ use script::words;
 use script::words::Numbers;
 use script::words::Spelt;
 
-pub enum Call {
-    Fresh(Address),
-    Ask(Request),
-    Tick(u64),
-    Hand(Part),
-    Output(u64),
-    Octets,
-    Timers,
-    Not,
+fn hand_link(desk: Desk, of: [u64; 15]) -> Desk {
+    if !hand::is_link(of) {
+        return run::not_asked(desk);
+    }
+    run::handed(desk, hand::with_link(desk, of))
 }
 
-fn of_none(name: &[u8]) -> Call {
-    if check::same(name, b"octets") {
-        return Call::Octets;
-    }
-    if check::same(name, b"timers") {
-        return Call::Timers;
-    }
-    Call::Not
-}
-
-fn of_one(name: &[u8], n: u64) -> Call {
-    if check::same(name, b"fresh") {
-        return Call::Fresh(Address(n));
-    }
-    if check::same(name, b"tick") {
-        return Call::Tick(n);
-    }
-    if check::same(name, b"output") {
-        return Call::Output(n);
-    }
-    Call::Not
-}
-
-// What is no request and no part is a call of this program's own, with one number or none.
-fn of_others(name: &[u8], n: Numbers) -> Call {
-    let x = n.of;
-    let number = n.number;
-    match number {
-        0 => of_none(name),
-        1 => of_one(name, x[0]),
-        _ => Call::Not,
+fn hand(desk: Desk, name: &[u8], of: [u64; 15]) -> Desk {
+    match words::place(name, b"hand_head hand_before hand_inside hand_link") {
+        0 => run::handed(desk, hand::with_head(desk, of)),
+        1 => run::handed(desk, hand::with_before(desk, of)),
+        2 => run::handed(desk, hand::with_inside(desk, of)),
+        3 => hand_link(desk, of),
+        _ => run::not_asked(desk),
     }
 }
 
-fn of(name: &[u8], n: Numbers) -> Call {
-    if let Asked::Is(request) = requests::named(name, n) {
-        return Call::Ask(request);
+fn own(desk: Desk, name: &[u8], of: [u64; 15]) -> Desk {
+    match words::place(name, b"fresh tick output octets timers") {
+        0 => run::fresh(desk, Address(of[0])),
+        1 => run::ticks(desk, of[0]),
+        2 => run::output(desk, of[0]),
+        3 => run::octets(desk),
+        4 => run::timers(desk),
+        _ => hand(desk, name, of),
     }
-    if let Handed::Is(part) = hand::named(name, n) {
-        return Call::Hand(part);
-    }
-    of_others(name, n)
 }
 
-fn of_message(link: u64, name: &[u8], n: Numbers) -> Call {
+// A client's request, or a call of this program's own.
+fn named(desk: Desk, name: &[u8], n: Numbers) -> Desk {
+    let of = n.of;
+    if n.number > words::MOST {
+        return run::not_asked(desk);
+    }
+    let place = requests::place(name);
+    if place < requests::PLACES {
+        return run::ask(desk, requests::at(place, n));
+    }
+    own(desk, name, of)
+}
+
+fn hear(desk: Desk, link: u64, name: &[u8], n: Numbers) -> Desk {
     if (n.number > words::MOST) | !messages::is_named(name) {
-        return Call::Not;
+        return run::not_asked(desk);
     }
     let link = link as usize;
     let message = messages::message(name, n);
-    Call::Ask(Request::Hear { link, message })
+    run::ask(desk, Request::Hear { link, message })
 }
 
-fn of_link(link: u64, line: &[u8]) -> Call {
+fn hear_on(desk: Desk, link: u64, line: &[u8]) -> Desk {
     let n = scan::find(line, 0, line.len(), b' ');
-    of_message(link, &line[0..n], words::behind(line, n + 1))
+    hear(desk, link, &line[0..n], words::behind(line, n + 1))
 }
 
 // A link, and a message's line behind it.
-fn of_heard(line: &[u8]) -> Call {
+fn heard(desk: Desk, line: &[u8]) -> Desk {
     let n = scan::find(line, 0, line.len(), b' ');
     if n == line.len() {
-        return Call::Not;
+        return run::not_asked(desk);
     }
     let Spelt::Is(link) = words::number(&line[0..n]) else {
-        return Call::Not;
+        return run::not_asked(desk);
     };
-    of_link(link, &line[n + 1..])
+    hear_on(desk, link, &line[n + 1..])
 }
 
 // A line is a name, and numbers behind it; behind `hear` it is a link and a message.
-pub fn asked(line: &[u8]) -> Call {
+pub fn call(desk: Desk, line: &[u8]) -> Desk {
     let n = scan::find(line, 0, line.len(), b' ');
     if n < line.len() {
         if check::same(&line[0..n], b"hear") {
-            return of_heard(&line[n + 1..]);
+            return heard(desk, &line[n + 1..]);
         }
     }
-    of(&line[0..n], words::behind(line, n + 1))
+    named(desk, &line[0..n], words::behind(line, n + 1))
 }

@@ -19,7 +19,7 @@ fn run_line(desk: Desk, line: &[u8]) -> Desk {
         out::text(b"\n");
         return desk;
     }
-    run::run(desk, calls::asked(line))
+    calls::call(desk, line)
 }
 
 fn run_lines(text: &[u8]) {

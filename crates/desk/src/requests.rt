@@ -1,15 +1,16 @@
 // A client's request, by its name and its numbers.
+ghost use Prim.Native.Nat.{_≤_};
 use clock::Count;
 use frame::Address;
+use gating::Asked;
 use gating::Leave;
 use judging::Request;
 use script::messages;
+use script::words;
 use script::words::Numbers;
 
-pub enum Asked {
-    Is(Request),
-    Not,
-}
+// The names that `place` knows.
+pub const PLACES: usize = 6;
 
 fn open(of: [u64; 15]) -> Request {
     Request::Open {
@@ -49,81 +50,50 @@ fn deregister(of: [u64; 15]) -> Request {
     }
 }
 
-fn leave(start: u64, length: u64) -> Leave {
+fn leave(of: [u64; 15], at: usize) -> Leave
+    requires { ⌜ at ≤ 13 ⌝ }
+{
     Leave {
-        start: Count(messages::modulo_32(start)),
-        length: messages::quanta(length),
+        start: Count(messages::modulo_32(of[at])),
+        length: messages::quanta(of[at + 1]),
     }
 }
 
-// With a number of grants; of five the first four are handed in.
-fn gate_of(number: usize, of: [u64; 15]) -> Asked {
-    let asked = gating::Asked {
-        number,
-        first: leave(of[2], of[3]),
-        second: leave(of[4], of[5]),
-        third: leave(of[6], of[7]),
-        fourth: leave(of[8], of[9]),
+// As many as the numbers behind the force bits make.
+fn leaves(number: usize) -> usize {
+    if number < 2 {
+        return 0;
+    }
+    (number - 2) / 2
+}
+
+// Of more than four grants the first four are handed in.
+fn gate(n: Numbers) -> Request {
+    let of = n.of;
+    let asked = Asked {
+        number: leaves(n.number),
+        first: leave(of, 2),
+        second: leave(of, 4),
+        third: leave(of, 6),
+        fourth: leave(of, 8),
         force: messages::modulo_8(of[1]),
     };
     let link = of[0] as usize;
-    Asked::Is(Request::Gate { link, asked })
+    Request::Gate { link, asked }
 }
 
-fn gate(number: usize, of: [u64; 15]) -> Asked {
-    match number {
-        2 => gate_of(0, of),
-        4 => gate_of(1, of),
-        6 => gate_of(2, of),
-        8 => gate_of(3, of),
-        10 => gate_of(4, of),
-        12 => gate_of(5, of),
-        _ => Asked::Not,
-    }
+pub fn place(name: &[u8]) -> usize {
+    words::place(name, b"open admit reject reregister deregister gate")
 }
 
-fn of_one(name: &[u8], of: [u64; 15]) -> Asked {
-    if check::same(name, b"deregister") {
-        return Asked::Is(deregister(of));
-    }
-    Asked::Not
-}
-
-fn of_two(name: &[u8], of: [u64; 15]) -> Asked {
-    if check::same(name, b"reregister") {
-        return Asked::Is(reregister(of));
-    }
-    Asked::Not
-}
-
-fn of_three(name: &[u8], of: [u64; 15]) -> Asked {
-    if check::same(name, b"admit") {
-        return Asked::Is(admit(of));
-    }
-    if check::same(name, b"reject") {
-        return Asked::Is(reject(of));
-    }
-    Asked::Not
-}
-
-fn of_four(name: &[u8], of: [u64; 15]) -> Asked {
-    if check::same(name, b"open") {
-        return Asked::Is(open(of));
-    }
-    Asked::Not
-}
-
-pub fn named(name: &[u8], n: Numbers) -> Asked {
+pub fn at(place: usize, n: Numbers) -> Request {
     let of = n.of;
-    let number = n.number;
-    if check::same(name, b"gate") {
-        return gate(number, of);
-    }
-    match number {
-        1 => of_one(name, of),
-        2 => of_two(name, of),
-        3 => of_three(name, of),
-        4 => of_four(name, of),
-        _ => Asked::Not,
+    match place {
+        0 => open(of),
+        1 => admit(of),
+        2 => reject(of),
+        3 => reregister(of),
+        4 => deregister(of),
+        _ => gate(n),
     }
 }

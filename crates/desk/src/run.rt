@@ -1,7 +1,4 @@
 // The head's calls, each with what is shown of it.
-use crate::calls::Call;
-use crate::hand;
-use crate::hand::Part;
 use crate::state::Desk;
 use crate::tell;
 use face::Served;
@@ -30,7 +27,7 @@ fn tell_answer(answer: Answer, before: [Link; 3], after: [Link; 3]) {
     tell::tell_changed(before, after);
 }
 
-fn fresh(desk: Desk, address: Address) -> Desk {
+pub fn fresh(desk: Desk, address: Address) -> Desk {
     let before = desk.links;
     let begun = face::fresh(address, before);
     let answer = begun.answer;
@@ -75,7 +72,7 @@ fn after(desk: Desk, served: Served) -> Desk {
     }
 }
 
-fn ask(desk: Desk, request: Request) -> Desk {
+pub fn ask(desk: Desk, request: Request) -> Desk {
     let before = desk.links;
     let served = serve(desk, request);
     tell_served(before, served);
@@ -121,7 +118,7 @@ fn tick(desk: Desk, k: u64) -> Desk {
     after(desk, served)
 }
 
-fn ticks(desk: Desk, number: u64) -> Desk {
+pub fn ticks(desk: Desk, number: u64) -> Desk {
     out::text(b"\n");
     let mut d = desk;
     let mut k: u64 = 0;
@@ -132,8 +129,8 @@ fn ticks(desk: Desk, number: u64) -> Desk {
     d
 }
 
-fn handed(desk: Desk, part: Part) -> Desk {
-    let next = hand::with(desk, part);
+// A desk as it was, and as it is handed in again.
+pub fn handed(desk: Desk, next: Desk) -> Desk {
     let head = next.head;
     let before = desk.links;
     let links = next.links;
@@ -144,7 +141,7 @@ fn handed(desk: Desk, part: Part) -> Desk {
     next
 }
 
-fn output(desk: Desk, number: u64) -> Desk {
+pub fn output(desk: Desk, number: u64) -> Desk {
     if number > OUTPUT as u64 {
         return not_asked(desk);
     }
@@ -156,14 +153,14 @@ fn output(desk: Desk, number: u64) -> Desk {
     next
 }
 
-fn octets(desk: Desk) -> Desk {
+pub fn octets(desk: Desk) -> Desk {
     let out = desk.out;
     out::text(b"\n");
     tell::tell_octets(out);
     desk
 }
 
-fn timers(desk: Desk) -> Desk {
+pub fn timers(desk: Desk) -> Desk {
     let links = desk.links;
     out::text(b" ->");
     tell::tell_timers(links);
@@ -171,20 +168,7 @@ fn timers(desk: Desk) -> Desk {
     desk
 }
 
-fn not_asked(desk: Desk) -> Desk {
+pub fn not_asked(desk: Desk) -> Desk {
     out::text(b" -> ?\n");
     desk
-}
-
-pub fn run(desk: Desk, call: Call) -> Desk {
-    match call {
-        Call::Fresh(address) => return fresh(desk, address),
-        Call::Ask(request) => return ask(desk, request),
-        Call::Tick(number) => return ticks(desk, number),
-        Call::Hand(part) => return handed(desk, part),
-        Call::Output(number) => return output(desk, number),
-        Call::Octets => return octets(desk),
-        Call::Timers => return timers(desk),
-        Call::Not => return not_asked(desk),
-    }
 }
