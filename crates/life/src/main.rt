@@ -1,33 +1,25 @@
 // Runs a floor box through the calls that standard input asks for, a line each, and shows what it answers.
 mod calls;
 mod hand;
-mod messages;
-mod out;
 mod run;
 mod tell;
-mod words;
 
+use bytes::scan;
 use floorbox::Answer;
 use floorbox::FloorBox;
 use frame::Address;
 use libc::STDERR_FILENO;
 use libc::STDIN_FILENO;
-
-// Comments and empty lines are passed on, so that an input can explain itself.
-fn passed_on(line: &[u8]) -> bool {
-    if line.len() == 0 {
-        return true;
-    }
-    line[0] == b'#'
-}
+use script::out;
+use script::words;
 
 fn run_line(last: Answer, line: &[u8]) -> Answer {
     out::text(line);
-    if passed_on(line) {
+    if words::passed_on(line) {
         out::text(b"\n");
         return last;
     }
-    run::run(last, calls::asked(line))
+    run::run(last, line)
 }
 
 // Before the first fresh box there is a refused one.
@@ -35,7 +27,7 @@ fn run_lines(text: &[u8]) {
     let mut last = FloorBox::fresh(Address(0));
     let mut at = 0;
     while at < text.len() {
-        let end = at + words::find(&text[at..], b'\n');
+        let end = scan::find(text, at, text.len(), b'\n');
         last = run_line(last, &text[at..end]);
         at = end + 1;
     }

@@ -1,15 +1,19 @@
 // The box's calls, each with what is shown of it; the last answer holds the box.
 ghost use Prim.Native.Nat.{_≤_};
-use crate::calls::Ask;
+use crate::calls;
 use crate::calls::Call;
 use crate::calls::Look;
 use crate::hand;
-use crate::out;
 use crate::tell;
+use bytes::scan;
 use floorbox::Answer;
 use floorbox::FloorBox;
 use frame::Address;
 use frame::Reply;
+use script::messages;
+use script::out;
+use script::words;
+use script::words::Numbers;
 use telling::Frames;
 use telling::Notice;
 use telling::Notices;
@@ -27,18 +31,15 @@ fn fresh(address: Address) -> Answer {
     a
 }
 
-fn answer(b: FloorBox, ask: Ask) -> Answer {
-    match ask {
-        Ask::Register => b.register(),
-        Ask::Deregister => b.deregister(),
-        Ask::Hear(message, random) => b.hear(message, random),
-    }
-}
-
 fn told(a: Answer) -> Answer {
     tell::tell(a);
     out::text(b"\n");
     a
+}
+
+fn hear(last: Answer, name: &[u8], n: Numbers) -> Answer {
+    let b = last.next;
+    told(b.hear(messages::message(name, n), messages::random(n)))
 }
 
 fn handed(next: FloorBox) -> Answer {
@@ -161,13 +162,30 @@ fn look(last: Answer, at: Look) -> Answer {
     last
 }
 
-pub fn run(last: Answer, call: Call) -> Answer {
+fn call(last: Answer, call: Call) -> Answer {
     let b = last.next;
     match call {
         Call::Fresh(address) => fresh(address),
-        Call::Ask(ask) => told(answer(b, ask)),
+        Call::Register => told(b.register()),
+        Call::Deregister => told(b.deregister()),
         Call::Tick(number) => ticks(last, number),
         Call::Hand(part) => handed(hand::with(b, part)),
         Call::Look(at) => look(last, at),
     }
+}
+
+fn named(last: Answer, name: &[u8], n: Numbers) -> Answer {
+    if n.number > words::MOST {
+        return look(last, Look::Nothing);
+    }
+    if messages::is_named(name) {
+        return hear(last, name, n);
+    }
+    call(last, calls::named(name, n))
+}
+
+// A line is a name, and numbers behind it.
+pub fn run(last: Answer, line: &[u8]) -> Answer {
+    let n = scan::find(line, 0, line.len(), b' ');
+    named(last, &line[0..n], words::behind(line, n + 1))
 }

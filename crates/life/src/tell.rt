@@ -1,14 +1,13 @@
 // What a box answers, in words.
-use crate::out;
-use clock::Count;
 use clock::Timer;
 use floorbox::Answer;
 use floorbox::FloorBox;
-use frame::Body;
 use frame::Grant;
 use frame::Reply;
 use light::Light;
 use registration::State;
+use script::frames;
+use script::out;
 use telling::Frames;
 use telling::Notice;
 use telling::Notices;
@@ -27,19 +26,6 @@ pub fn phase(light: Light) -> u8 {
     }
 }
 
-fn tell_phase(phase: u8) {
-    match phase {
-        0 => out::text(b" rest"),
-        1 => out::text(b" before"),
-        2 => out::text(b" random"),
-        3 => out::text(b" laser"),
-        4 => out::text(b" asking"),
-        5 => out::text(b" due"),
-        6 => out::text(b" lit"),
-        _ => out::text(b" open"),
-    }
-}
-
 fn tell_state(state: State) {
     match state {
         State::Wait => out::text(b" WAIT"),
@@ -47,10 +33,6 @@ fn tell_state(state: State) {
         State::RegisterReq => out::text(b" REGISTER_REQ"),
         State::Registered => out::text(b" REGISTERED"),
     }
-}
-
-fn tell_count(count: Count) {
-    out::number(count.0 as u64);
 }
 
 // Count, state, light and the number of grants held.
@@ -62,9 +44,12 @@ pub fn tell_box(b: FloorBox) {
     let light = p.light;
     let list = p.list;
     out::text(b" count");
-    tell_count(count);
+    frames::tell_count(count);
     tell_state(state);
-    tell_phase(phase(light));
+    out::word(
+        b"rest before random laser asking due lit open",
+        phase(light),
+    );
     out::text(b" held");
     out::number(list.number as u64);
 }
@@ -88,28 +73,37 @@ pub fn tell_timers(b: FloorBox) {
     tell_timer(report);
 }
 
-fn tell_grant(grant: Grant) {
-    let start = grant.start;
-    let length = grant.length;
+fn tell_granted(grant: Grant) {
     out::text(b"; granted");
-    tell_count(start);
-    out::number(length.0 as u64);
-    if grant.force {
-        out::text(b" force");
+    frames::tell_grant(grant);
+}
+
+// A notice's place among the words for those that hold nothing.
+fn place(notice: Notice) -> u8 {
+    match notice {
+        Notice::Window => 0,
+        Notice::Registered => 1,
+        Notice::Refused => 2,
+        Notice::Retry => 3,
+        Notice::Deregistered => 4,
+        Notice::Open => 5,
+        _ => 6,
     }
+}
+
+fn tell_event(place: u8) {
+    out::text(b";");
+    out::word(
+        b"window registered refused retry deregistered open close",
+        place,
+    );
 }
 
 fn tell_notice(notice: Notice) {
     match notice {
         Notice::Nothing => {}
-        Notice::Window => out::text(b"; window"),
-        Notice::Registered => out::text(b"; registered"),
-        Notice::Refused => out::text(b"; refused"),
-        Notice::Retry => out::text(b"; retry"),
-        Notice::Deregistered => out::text(b"; deregistered"),
-        Notice::Granted(grant) => tell_grant(grant),
-        Notice::Open => out::text(b"; open"),
-        Notice::Close => out::text(b"; close"),
+        Notice::Granted(grant) => tell_granted(grant),
+        _ => tell_event(place(notice)),
     }
 }
 
@@ -124,38 +118,14 @@ fn tell_notices(notices: Notices) {
     tell_notice(fourth);
 }
 
-fn tell_body(body: Body) {
-    match body {
-        Body::RegisterReq { flag, pending } => {
-            out::text(b"; register_req");
-            out::number(flag.number() as u64);
-            out::text(b" pending");
-            out::number(pending as u64);
-        }
-        Body::RegisterAck { flag, port, sync } => {
-            out::text(b"; register_ack");
-            out::number(flag.number() as u64);
-            out::text(b" port");
-            out::number(port as u64);
-            out::text(b" sync");
-            out::number(sync.0 as u64);
-        }
-        Body::Report => out::text(b"; report"),
-        _ => out::text(b"; a head's frame"),
-    }
-}
-
 // As the reader of frames reads it.
 fn tell_frame(octets: [u8; 60]) {
     let reading = reader::read(&octets);
     let reply = reading.reply;
     let message = reading.message;
-    let body = message.body;
-    let timestamp = message.timestamp;
     if let Reply::Done = reply {
-        tell_body(body);
-        out::text(b" stamp");
-        tell_count(timestamp);
+        out::text(b";");
+        frames::tell(message);
     } else {
         out::text(b"; no frame");
     }

@@ -12,6 +12,8 @@ use frame::Grant;
 use frame::Grants;
 use frame::Message;
 use frame::RegisterAckFlag;
+use frame::RegisterFlag;
+use frame::RegisterReqFlag;
 use frame::Reply;
 use frame::Writing;
 
@@ -29,69 +31,84 @@ fn show_grant(g: Grant) {
     }
 }
 
-fn show_grants(g: Grants) {
-    match g {
+fn show_two(a: Grant, b: Grant) {
+    show_grant(a);
+    show_grant(b);
+}
+
+fn show_one_grant(a: Grant) {
+    out::number(1);
+    show_grant(a);
+}
+
+fn show_two_grants(a: Grant, b: Grant) {
+    out::number(2);
+    show_two(a, b);
+}
+
+fn show_three_grants(a: Grant, b: Grant, c: Grant) {
+    out::number(3);
+    show_two(a, b);
+    show_grant(c);
+}
+
+fn show_four_grants(a: Grant, b: Grant, c: Grant, d: Grant) {
+    out::number(4);
+    show_two(a, b);
+    show_two(c, d);
+}
+
+fn show_gate(grants: Grants) {
+    out::text(b" gate");
+    match grants {
         Grants::None => out::number(0),
-        Grants::One(a) => {
-            out::number(1);
-            show_grant(a);
-        }
-        Grants::Two(a, b) => {
-            out::number(2);
-            show_grant(a);
-            show_grant(b);
-        }
-        Grants::Three(a, b, c) => {
-            out::number(3);
-            show_grant(a);
-            show_grant(b);
-            show_grant(c);
-        }
-        Grants::Four(a, b, c, d) => {
-            out::number(4);
-            show_grant(a);
-            show_grant(b);
-            show_grant(c);
-            show_grant(d);
-        }
+        Grants::One(a) => show_one_grant(a),
+        Grants::Two(a, b) => show_two_grants(a, b),
+        Grants::Three(a, b, c) => show_three_grants(a, b, c),
+        Grants::Four(a, b, c, d) => show_four_grants(a, b, c, d),
     }
+}
+
+fn show_discovery(grant: Grant, sync: Quanta) {
+    out::text(b" discovery");
+    show_grant(grant);
+    out::number(sync.0 as u64);
+}
+
+fn show_register_req(flag: RegisterReqFlag, pending: u8) {
+    out::text(b" register_req");
+    out::number(flag.number() as u64);
+    out::number(pending as u64);
+}
+
+fn show_register(port: u16, flag: RegisterFlag, sync: Quanta, pending: u8) {
+    out::text(b" register");
+    out::number(port as u64);
+    out::number(flag.number() as u64);
+    out::number(sync.0 as u64);
+    out::number(pending as u64);
+}
+
+fn show_register_ack(flag: RegisterAckFlag, port: u16, sync: Quanta) {
+    out::text(b" register_ack");
+    out::number(flag.number() as u64);
+    out::number(port as u64);
+    out::number(sync.0 as u64);
 }
 
 fn show_body(body: Body) {
     match body {
-        Body::Gate(grants) => {
-            out::text(b" gate");
-            show_grants(grants);
-        }
-        Body::Discovery { grant, sync } => {
-            out::text(b" discovery");
-            show_grant(grant);
-            out::number(sync.0 as u64);
-        }
+        Body::Gate(grants) => show_gate(grants),
+        Body::Discovery { grant, sync } => show_discovery(grant, sync),
         Body::Report => out::text(b" report"),
-        Body::RegisterReq { flag, pending } => {
-            out::text(b" register_req");
-            out::number(flag.number() as u64);
-            out::number(pending as u64);
-        }
+        Body::RegisterReq { flag, pending } => show_register_req(flag, pending),
         Body::Register {
             port,
             flag,
             sync,
             pending,
-        } => {
-            out::text(b" register");
-            out::number(port as u64);
-            out::number(flag.number() as u64);
-            out::number(sync.0 as u64);
-            out::number(pending as u64);
-        }
-        Body::RegisterAck { flag, port, sync } => {
-            out::text(b" register_ack");
-            out::number(flag.number() as u64);
-            out::number(port as u64);
-            out::number(sync.0 as u64);
-        }
+        } => show_register(port, flag, sync, pending),
+        Body::RegisterAck { flag, port, sync } => show_register_ack(flag, port, sync),
     }
 }
 

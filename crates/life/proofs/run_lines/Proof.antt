@@ -19,20 +19,8 @@ fresh-requires c κs = search needs
 loop-holds : tie.Need-loop-holds Inv-loop μ-loop
 loop-holds c = search needs
 
-sub-find : tie.Need-sub-find Inv-loop μ-loop
-sub-find c = search needs
-
-part-find-start : tie.Need-part-find-start Inv-loop μ-loop
-part-find-start c = search needs
-
-part-find-end : tie.Need-part-find-end Inv-loop μ-loop
-part-find-end c = search needs
-
 find-requires : tie.Need-find-requires Inv-loop μ-loop
 find-requires c κs = search needs
-
-add-end : tie.Need-add-end Inv-loop μ-loop
-add-end c = search needs
 
 sub-run-line : tie.Need-sub-run-line Inv-loop μ-loop
 sub-run-line c = search needs
@@ -66,11 +54,7 @@ run-lines-spec =
     μ-loop
     fresh-requires
     loop-holds
-    sub-find
-    part-find-start
-    part-find-end
     find-requires
-    add-end
     sub-run-line
     part-run-line-start
     part-run-line-end

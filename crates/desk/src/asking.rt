@@ -1,0 +1,99 @@
+// A client's request, by its name and its numbers.
+ghost use Prim.Native.Nat.{_≤_};
+use clock::Count;
+use frame::Address;
+use gating::Asked;
+use gating::Leave;
+use judging::Request;
+use script::messages;
+use script::words;
+use script::words::Numbers;
+
+// The names that `place` knows.
+pub const PLACES: usize = 6;
+
+fn open(of: [u64; 15]) -> Request {
+    Request::Open {
+        start: Count(messages::modulo_32(of[0])),
+        length: messages::quanta(of[1]),
+        sync: messages::quanta(of[2]),
+        window: messages::quanta(of[3]),
+    }
+}
+
+fn admit(of: [u64; 15]) -> Request {
+    Request::Admit {
+        address: Address(of[0]),
+        pending: messages::modulo_8(of[1]),
+        sync: messages::quanta(of[2]),
+    }
+}
+
+fn reject(of: [u64; 15]) -> Request {
+    Request::Reject {
+        address: Address(of[0]),
+        pending: messages::modulo_8(of[1]),
+        sync: messages::quanta(of[2]),
+    }
+}
+
+fn reregister(of: [u64; 15]) -> Request {
+    Request::Reregister {
+        link: of[0] as usize,
+        sync: messages::quanta(of[1]),
+    }
+}
+
+fn deregister(of: [u64; 15]) -> Request {
+    Request::Deregister {
+        link: of[0] as usize,
+    }
+}
+
+fn leave(of: [u64; 15], at: usize) -> Leave
+    requires { ⌜ at ≤ 13 ⌝ }
+{
+    Leave {
+        start: Count(messages::modulo_32(of[at])),
+        length: messages::quanta(of[at + 1]),
+    }
+}
+
+// As many as the numbers behind the force bits make.
+fn leaves(number: usize) -> usize {
+    if number < 2 {
+        return 0;
+    }
+    (number - 2) / 2
+}
+
+// Of more than four grants the first four are handed in.
+fn gate(n: Numbers) -> Request {
+    let of = n.of;
+    let asked = Asked {
+        number: leaves(n.number),
+        first: leave(of, 2),
+        second: leave(of, 4),
+        third: leave(of, 6),
+        fourth: leave(of, 8),
+        force: messages::modulo_8(of[1]),
+    };
+    let link = of[0] as usize;
+    Request::Gate { link, asked }
+}
+
+pub fn place(name: &[u8]) -> usize {
+    words::place(name, b"open admit reject reregister deregister gate")
+}
+
+pub fn at(place: usize, n: Numbers) -> Request {
+    let of = n.of;
+    match place {
+        0 => open(of),
+        1 => admit(of),
+        2 => reject(of),
+        3 => reregister(of),
+        4 => deregister(of),
+        _ => gate(n),
+    }
+}

@@ -1,0 +1,123 @@
+// What a frame says, in words.
+use crate::out;
+use clock::Count;
+use clock::Quanta;
+use frame::Body;
+use frame::Grant;
+use frame::Grants;
+use frame::Message;
+use frame::RegisterAckFlag;
+use frame::RegisterFlag;
+use frame::RegisterReqFlag;
+
+pub fn tell_count(count: Count) {
+    out::number(count.0 as u64);
+}
+
+pub fn tell_grant(grant: Grant) {
+    let start = grant.start;
+    let length = grant.length;
+    tell_count(start);
+    out::number(length.0 as u64);
+    if grant.force {
+        out::text(b" force");
+    }
+}
+
+fn tell_port(port: u16) {
+    out::text(b" port");
+    out::number(port as u64);
+}
+
+fn tell_sync(sync: Quanta) {
+    out::text(b" sync");
+    out::number(sync.0 as u64);
+}
+
+fn tell_pending(pending: u8) {
+    out::text(b" pending");
+    out::number(pending as u64);
+}
+
+fn tell_another(grant: Grant) {
+    out::text(b",");
+    tell_grant(grant);
+}
+
+fn tell_two(a: Grant, b: Grant) {
+    tell_grant(a);
+    tell_another(b);
+}
+
+fn tell_three(a: Grant, b: Grant, c: Grant) {
+    tell_two(a, b);
+    tell_another(c);
+}
+
+fn tell_four(a: Grant, b: Grant, c: Grant, d: Grant) {
+    tell_three(a, b, c);
+    tell_another(d);
+}
+
+fn tell_gate(grants: Grants) {
+    out::text(b" gate");
+    match grants {
+        Grants::None => {}
+        Grants::One(a) => tell_grant(a),
+        Grants::Two(a, b) => tell_two(a, b),
+        Grants::Three(a, b, c) => tell_three(a, b, c),
+        Grants::Four(a, b, c, d) => tell_four(a, b, c, d),
+    }
+}
+
+fn tell_discovery(grant: Grant, sync: Quanta) {
+    out::text(b" discovery");
+    tell_grant(grant);
+    tell_sync(sync);
+}
+
+fn tell_register_req(flag: RegisterReqFlag, pending: u8) {
+    out::text(b" register_req");
+    out::number(flag.number() as u64);
+    tell_pending(pending);
+}
+
+fn tell_register(flag: RegisterFlag, port: u16, sync: Quanta, pending: u8) {
+    out::text(b" register");
+    out::number(flag.number() as u64);
+    tell_port(port);
+    tell_sync(sync);
+    tell_pending(pending);
+}
+
+fn tell_register_ack(flag: RegisterAckFlag, port: u16, sync: Quanta) {
+    out::text(b" register_ack");
+    out::number(flag.number() as u64);
+    tell_port(port);
+    tell_sync(sync);
+}
+
+fn tell_body(body: Body) {
+    match body {
+        Body::Gate(grants) => tell_gate(grants),
+        Body::Discovery { grant, sync } => tell_discovery(grant, sync),
+        Body::Report => out::text(b" report"),
+        Body::RegisterReq { flag, pending } => tell_register_req(flag, pending),
+        Body::Register {
+            port,
+            flag,
+            sync,
+            pending,
+        } => tell_register(flag, port, sync, pending),
+        Body::RegisterAck { flag, port, sync } => tell_register_ack(flag, port, sync),
+    }
+}
+
+// Its kind, its fields and its timestamp.
+pub fn tell(message: Message) {
+    let body = message.body;
+    let timestamp = message.timestamp;
+    tell_body(body);
+    out::text(b" stamp");
+    tell_count(timestamp);
+}
