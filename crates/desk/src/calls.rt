@@ -1,6 +1,6 @@
 // Which call a line asks for.
-use crate::hand;
 use crate::asking;
+use crate::hand;
 use crate::run;
 use crate::state::Desk;
 use bytes::scan;

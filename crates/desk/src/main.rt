@@ -1,7 +1,7 @@
 // Runs a head through the calls that standard input asks for, a line each, and shows what it answers.
+mod asking;
 mod calls;
 mod hand;
-mod asking;
 mod run;
 mod state;
 mod tell;
