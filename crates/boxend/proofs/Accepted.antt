@@ -7,24 +7,19 @@ use Rattle.frame.specs.Range.{Valid}
 use Rattle.frame.specs.declared.Message.{Message}
 use Rattle.range.specs.Fits.{of-valid}
 use Rattle.floorbox.specs.Answer.{accepted}
-use Rattle.floorbox.specs.Box.{soundOf, tickOf}
+use Rattle.floorbox.specs.Box.{tickOf}
 use Rattle.floorbox.specs.Hear.{isFromHead, isFor, heardOf, hearOf}
 use Rattle.floorbox.specs.declared.FloorBox.{FloorBox}
 use Rattle.boxlaws.specs.Calls.{hear, tick, answer, step, drift}
-use Rattle.boxlaws.specs.Runs.{Holds}
-use Rattle.boxlaws.specs.Sound.{sound-test}
+use Rattle.boxlaws.specs.Runs.{Holds, holds-sound}
 use Rattle.boxlaws.specs.Steady.{tick-ok}
 
 module _ (b : FloorBox) (h : Holds b) where
-  sound : soundOf b ≡ true
-  unfolding soundOf
-  sound = rw (h .address, sound-test (h .processes .sound))
-
   pub tick-accepted : answer tick b ≡ accepted b (drift tick b) (step tick b)
   unfolding tickOf
-  tick-accepted = rw (sound, tick-ok (b .processes) (h .processes))
+  tick-accepted = rw (holds-sound h, tick-ok (b .processes) (h .processes))
 
   pub hear-accepted : (m : Message) (random : ℕ) → Valid m → isFromHead (m .body) ≡ true → isFor b (m .destination) (m .body) ≡ true
       → answer (hear m random) b ≡ accepted b (drift (hear m random) b) (step (hear m random) b)
   unfolding heardOf hearOf
-  hear-accepted m random v f i = rw (sound, f, i, of-valid m v)
+  hear-accepted m random v f i = rw (holds-sound h, f, i, of-valid m v)

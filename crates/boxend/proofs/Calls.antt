@@ -3,18 +3,12 @@
 use Prim.Native.Nat.{ℕ, _^_, _<_}
 use mathlib.Core.Path.{_≡_, ap}
 use mathlib.Core.Bool.{Bool}
-use native.Mathlib.Omega.{arith}
-use lib.Dec.{eqb}
-use Rattle.clock.specs.Counts.{nextOf}
 use Rattle.frame.specs.declared.Address.{Address}
-use Rattle.range.specs.Fits.{valid-of}
-use Rattle.processes.specs.Parts.{withCount}
 use Rattle.floorbox.specs.Answer.{accepted}
 use Rattle.floorbox.specs.declared.Answer.{Answer}
 use Rattle.floorbox.specs.declared.FloorBox.{FloorBox}
-use Rattle.boxlaws.specs.Calls.{Call, register, deregister, hear, tick, answer, tests, step, drift, Passed, Outcome, unsound, refuses, accepts}
-use Rattle.boxlaws.specs.Frames.{CallTyped, countAfter, call-frames}
-use Rattle.boxlaws.specs.Sends.{tick-sends, hear-sends}
+use Rattle.boxlaws.specs.Calls.{Call, answer, tests, step, drift, Passed, Outcome, unsound, refuses, accepts}
+use Rattle.boxlaws.specs.Frames.{CallTyped, countAfter, step-sends, count-below, call-frames}
 use Rattle.boxlaws.specs.Steady.{call-steady}
 use Rattle.wire.specs.Restarts.{upRestarts}
 use Rattle.pairlaw.specs.Run.{HasRegistered}
@@ -28,13 +22,7 @@ use Rattle.boxend.proofs.Silent.{mute-frames}
 
 -- the count stays one
 step-count : (c : Call) (b : FloorBox) → CallTyped c → Passed (tests c b) → b .processes .count .0 < 2 ^ 32 → step c b .next .count .0 < 2 ^ 32
-unfolding nextOf
-step-count register b t h k = k
-step-count deregister b t h k = k
-step-count (hear m random) b t h k =
-    let own = eqb (m .destination .0) (b .address .0) in
-    rw (hear-sends (m .body) (withCount (b .processes) (m .timestamp)) own random (valid-of m t (h .1 .1 .0) .body) .count) (t .0)
-step-count tick b t h k = rw (tick-sends (b .processes) .count) (omega arith)
+step-count c b t h k = rw (step-sends c b t h .count) (count-below c b t k)
 
 -- after an accepted call the registration is that of its step
 pub next-registration : (c : Call) (b : FloorBox) → answer c b ≡ accepted b (drift c b) (step c b)

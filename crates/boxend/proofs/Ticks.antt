@@ -14,7 +14,8 @@ use Rattle.registration.specs.declared.Registration.{Registration}
 use Rattle.telling.specs.declared.Sent.the-variants.{Nothing}
 use Rattle.processes.specs.declared.Processes.{Processes}
 use Rattle.ticking.specs.Tick.{timed, tickOf}
-use Rattle.boxlaws.specs.Steady.{Steady, tick-ok}
+use Rattle.boxlaws.specs.Awaited.{timed-calm}
+use Rattle.boxlaws.specs.Steady.{Steady}
 use Rattle.boxend.proofs.Gauge.{watchdog-runs, wait-runs}
 use Rattle.boxend.proofs.Moves.{MovedBy, Idle, idle-unregistered, gone, unheld}
 use Rattle.boxend.proofs.Timed.{timer-falls, timer-rings, idle-timed, retry-timed, asking-timed, lost-timed, registered-timed}
@@ -28,7 +29,7 @@ module _ (p : Processes) (s : Steady p) where
   settled : isRegistering (timed p .next .registration .state) ≡ false
       → (tickOf p .next .registration ≡ timed p .next .registration) × (tickOf p .second ≡ Nothing)
   unfolding tickOf
-  settled e = shut-still (timed p .next) (shut-of (timed p .next) e (tick-ok p s))
+  settled e = shut-still (timed p .next) (shut-of (timed p .next) e (timed-calm p (s .awaited)))
 
   -- with more than one tick left the state stays, and its timer falls by one
   pub registered-ticks : before .state ≡ Registered → 1 < before .watchdog .left

@@ -1,20 +1,19 @@
 -- The second stage of a tick: the transmitter moves the registration only when a discovery window opens.
 -- Assumes nothing.
 use mathlib.Core.Path.{_≡_, refl, sym, _∙_}
-use mathlib.Core.Bool.{true, false, false≢true}
-use Rattle.clock.specs.Timers.{ticked}
+use mathlib.Core.Bool.{false, false≢true}
 use Rattle.light.specs.Tick.{tickOf as lightTick}
 use Rattle.light.specs.declared.Beam.{Beam}
 use Rattle.light.specs.declared.Light.{Light}
-use Rattle.registration.specs.Registration.{entering, isRegistered, isRegistering}
-use Rattle.registration.specs.Tick.{tickWait}
+use Rattle.registration.specs.Registration.{isRegistered, isRegistering}
+use Rattle.registration.specs.declared.State.{State}
 use Rattle.registration.specs.declared.State.the-variants.{RegisterReq}
-use Rattle.processes.specs.Parts.{withRegistration, withLight}
+use Rattle.processes.specs.Parts.{withLight}
 use Rattle.processes.specs.declared.Processes.{Processes}
 use Rattle.activation.specs.Activation.{lightUp}
-use Rattle.ticking.specs.Tick.{shine, timed, transmitted, tickOf}
+use Rattle.ticking.specs.Tick.{shine, transmitted}
 use Rattle.ticking.specs.declared.Stage.{Stage}
-use Rattle.boxlaws.specs.Awaited.{Calm, tick-calm}
+use Rattle.boxlaws.specs.Awaited.{Calm, Brings, tick-brings}
 use Rattle.boxend.proofs.Moves.{Mute}
 use Rattle.boxend.proofs.Timed.{Still}
 
@@ -30,24 +29,22 @@ abbrev pub Shut : Light → Type 0
 Shut l = Dim (lightTick l .beam)
 
 -- it opens only in REGISTERING
-dim-of : (beam : Beam) (q : Processes) → isRegistering (q .registration .state) ≡ false → shine beam q .ok ≡ true → Dim beam
-dim-of Beam.Quiet q e o = tt
-dim-of Beam.Window q e o = absurd (false≢true (sym e ∙ o))
-dim-of (Beam.Start entry sync) q e o = tt
-dim-of Beam.Opened q e o = tt
-dim-of Beam.Closed q e o = tt
+dim-of : (beam : Beam) (l : Light) (t : State) → isRegistering t ≡ false → Brings beam l t → Dim beam
+dim-of Beam.Quiet l t e b = tt
+dim-of Beam.Window l t e b = absurd (false≢true (sym e ∙ b .0))
+dim-of (Beam.Start entry sync) l t e b = tt
+dim-of Beam.Opened l t e b = tt
+dim-of Beam.Closed l t e b = tt
 
-pub shut-of : (q : Processes) → isRegistering (q .registration .state) ≡ false → transmitted q .ok ≡ true → Shut (q .light)
-unfolding transmitted
-shut-of q e o = dim-of (lightTick (q .light) .beam) (withLight q (lightTick (q .light) .light)) e o
+pub shut-of : (q : Processes) → isRegistering (q .registration .state) ≡ false → Calm q → Shut (q .light)
+shut-of q e c =
+    let l = q .light in
+    let t = q .registration .state in
+    dim-of (lightTick l .beam) (lightTick l .light) t e (tick-brings l t c)
 
--- and not in a tick that finds the box in REGISTER_REQ, even if that tick ends the wait: a box whose wait is off ticks as well, and stays
--- there
+-- and not in a tick that finds the box in REGISTER_REQ, even if that tick ends the wait
 pub asking-shut : (p : Processes) → Calm p → p .registration .state ≡ RegisterReq → Shut (p .light)
-unfolding tickOf timed tickWait ticked
-asking-shut p c e =
-    let q = withRegistration p (entering RegisterReq (p .registration)) in
-    shut-of (timed q .next) refl (tick-calm q (rw e at c) .0)
+asking-shut p c e = shut-of p (rw e) c
 
 module _ (q : Processes) where
   dim-still : (beam : Beam) (l : Light) → Dim beam → Still q (shine beam (withLight q l))

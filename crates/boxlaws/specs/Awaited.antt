@@ -109,14 +109,14 @@ ring-calm Bell.Retry p r h e = none-awaited (p .light) (p .registration .state) 
 ring-calm Bell.Lost p r h e = tt
 ring-calm Bell.Report p r h e = rw e h
 
-timed-calm : (p : Processes) → Calm p → Calm (timed p .next)
+pub timed-calm : (p : Processes) → Calm p → Calm (timed p .next)
 unfolding timed
 timed-calm p h =
     let t = registrationTick (p .registration) in
     ring-calm (t .bell) (withCount p (nextOf (p .count))) (t .registration) h (bell-says (p .registration))
 
 -- a tick of the transmitter: a window that opens was on its way
-abbrev Brings : Beam → Light → State → Type 0
+abbrev pub Brings : Beam → Light → State → Type 0
 Brings Beam.Quiet l s = Awaited l s
 Brings Beam.Window l s = (isRegistering s ≡ true) × Awaited l RegisterReq
 Brings (Beam.Start entry sync) l s = Unit {0}
@@ -144,7 +144,7 @@ timer-awaited (Due t entry sync) u s h = tt
 timer-awaited (Lit t length sync) u s h = tt
 timer-awaited (Open t) u s h = tt
 
-tick-brings : (l : Light) (s : State) → Awaited l s → Brings (lightTick l .beam) (lightTick l .light) s
+pub tick-brings : (l : Light) (s : State) → Awaited l s → Brings (lightTick l .beam) (lightTick l .light) s
 unfolding lightTick
 tick-brings l s h =
     let t = ticked (timerOf l) in

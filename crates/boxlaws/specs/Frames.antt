@@ -49,14 +49,14 @@ countAfter deregister b = b .processes .count
 countAfter (hear m random) b = m .timestamp
 countAfter tick b = nextOf (b .processes .count)
 
-step-sends : (c : Call) (b : FloorBox) → CallTyped c → Passed (tests c b) → Sends (countAfter c b) (step c b)
+pub step-sends : (c : Call) (b : FloorBox) → CallTyped c → Passed (tests c b) → Sends (countAfter c b) (step c b)
 step-sends register b t h = record { count = refl; first = tt; second = tt }
 step-sends deregister b t h = record { count = refl; first = omega arith; second = tt }
 step-sends (hear m random) b t h =
     hear-sends (m .body) (withCount (b .processes) (m .timestamp)) (eqb (m .destination .0) (b .address .0)) random (valid-of m t (h .1 .1 .0) .body)
 step-sends tick b t h = tick-sends (b .processes)
 
-count-below : (c : Call) (b : FloorBox) → CallTyped c → b .processes .count .0 < 2 ^ 32 → countAfter c b .0 < 2 ^ 32
+pub count-below : (c : Call) (b : FloorBox) → CallTyped c → b .processes .count .0 < 2 ^ 32 → countAfter c b .0 < 2 ^ 32
 unfolding nextOf
 count-below register b t h = h
 count-below deregister b t h = h

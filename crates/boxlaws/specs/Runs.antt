@@ -36,7 +36,7 @@ call-address c b x (unsound s e) = rw e
 call-address c b x (refuses s r n u e) = rw e
 call-address c b x (accepts s h e) = rw e
 
-holds-sound : {b : FloorBox} → Holds b → soundOf b ≡ true
+pub holds-sound : {b : FloorBox} → Holds b → soundOf b ≡ true
 unfolding soundOf
 holds-sound w = rw (w .address, sound-test (w .processes .sound))
 

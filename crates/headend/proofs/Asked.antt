@@ -23,8 +23,7 @@ use Rattle.head.specs.Head.{withWindow}
 use Rattle.head.specs.Window.{isIdle, opened}
 use Rattle.links.specs.Link.{idle, isHeld, isRegistered}
 use Rattle.links.specs.declared.Link.{Link}
-use Rattle.survey.specs.Facts.{isFew, anyHolds, idleFrom, linkFrom, factsOf}
-use Rattle.survey.specs.declared.Look.{Look}
+use Rattle.survey.specs.Facts.{isFew, anyHolds, idleFrom, linkFrom}
 use Rattle.table.specs.Output.{messageOf}
 use Rattle.requests.specs.Client.{fitsLengths, mayOpen, fitsParty}
 use Rattle.judging.specs.Judge.{lookOf}
@@ -36,7 +35,7 @@ use Rattle.headlaws.specs.Links.{held-at, holds-at}
 use Rattle.headlaws.specs.Numbered.{Has, none-idle}
 use Rattle.headlaws.specs.Requests.{admit-does, open-does, deregister-does}
 use Rattle.headlaws.specs.Runs.{run-sound, run-count}
-use Rattle.headlaws.specs.Sound.{facts-link, facts-idle}
+use Rattle.headlaws.specs.Sound.{facts-link, facts-idle, facts-held}
 use Rattle.headlaws.specs.Touches.{call-touches}
 use Rattle.pairlaw.specs.Run.{Holds}
 use Rattle.headend.specs.End.{HeadState, linkAt, asked, HeldLink, RegisteredLink, HeadEnd}
@@ -44,10 +43,6 @@ use Rattle.headend.proofs.Exact.{WaitingFor}
 use Rattle.headend.proofs.Octets.{call-sent}
 use Rattle.headend.proofs.Once.{holds-number, held-once}
 use Rattle.headend.proofs.Ready.{Ready, Taken, ready-done, ready-taken}
-
-facts-held : (xs : List Link) (k : Look) → isFew (length xs) ≡ true → factsOf xs k .held ≡ anyHolds (k .address) xs
-unfolding factsOf
-facts-held xs k n = rw n
 
 module _ {out : List ℕ} {s : HeadState} (y : Ready out s) (A : Address) where
   abbrev xs : List Link

@@ -13,7 +13,7 @@ use Rattle.links.specs.declared.State.the-variants.{Idle, Waiting}
 use Rattle.table.specs.Events.{portOf}
 use Rattle.judging.specs.declared.Request.{Request}
 use Rattle.serving.specs.Serve.{serveOf}
-use Rattle.headlaws.specs.Events.{table-parts}
+use Rattle.headlaws.specs.Events.{table-parts, found-sound}
 use Rattle.headlaws.specs.Links.{held-at, holds-at}
 use Rattle.headlaws.specs.Runs.{run-sound}
 use Rattle.headlaws.specs.Steps.{tick-keeps}
@@ -21,7 +21,6 @@ use Rattle.headlaws.specs.Ticks.{tick-links}
 use Rattle.pairlaw.specs.Run.{Holds}
 use Rattle.headend.specs.End.{HeadState, linkAt, asked, HeldLink, RegisteredLink, HeadEnd}
 use Rattle.headend.proofs.Ready.{Ready, Taken, ready-done, ready-taken}
-use Rattle.headend.proofs.Table.{number-sound}
 use Rattle.headend.proofs.Timers.{tick-waiting, tick-registered}
 
 -- a link that is registered for A, or waits for it, with so many ticks left
@@ -73,5 +72,5 @@ module _ {out : List ℕ} {s : HeadState} (y : Ready out s) where
       let l = linkAt s n in
       let m = tickOf l (portOf n) .link in
       let k = subst (λ (x : Link). HeldLink A x) (link-ticked n) (h .1) in
-      let sound = number-sound n 1 (s .table) (table-parts (s .table) (run-sound (y .ok) .table) .1) in
+      let sound = found-sound n 1 (s .table) (table-parts (s .table) (run-sound (y .ok) .table) .1) in
       off (n, held-at A l (tick-keeps l (portOf n) sound .within A (holds-at A m (k .0) (k .1))))

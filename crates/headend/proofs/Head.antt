@@ -22,7 +22,7 @@ use Rattle.plans.specs.declared.Plan.{Plan}
 use Rattle.judging.specs.declared.Request.{Request}
 use Rattle.serving.specs.Serve.{senderOf, doneOf, planOf, serveOf}
 use Rattle.headlaws.specs.Calls.{Outcome, unsound, short, refuses, accepts, outcome}
-use Rattle.headlaws.specs.Events.{table-parts}
+use Rattle.headlaws.specs.Events.{table-parts, found-sound}
 use Rattle.headlaws.specs.Frames.{sentBy, linkFrames}
 use Rattle.headlaws.specs.Links.{sound-in, waiting-parts, registered-parts}
 use Rattle.headlaws.specs.Refusals.{reply-is}
@@ -40,7 +40,7 @@ use Rattle.headend.proofs.Fresh.{fresh-run}
 use Rattle.headend.proofs.Messages.{Kept}
 use Rattle.headend.proofs.Octets.{call-quiet}
 use Rattle.headend.proofs.Plans.{Complies, planned-complies}
-use Rattle.headend.proofs.Table.{number-sound, nothing-behaves, ticks-behave, each-falls, sent-quiet, frames-quiet}
+use Rattle.headend.proofs.Table.{nothing-behaves, ticks-behave, each-falls, sent-quiet, frames-quiet}
 
 module _ (A : Address) where
   -- what runs reach, and the ticks left to a registered and to a waiting link
@@ -59,7 +59,7 @@ module _ (A : Address) where
   ok-sound s o = table-parts (s .table) (run-sound o .table) .1
 
   ok-link : (s : HeadState) → gauge .Ok s → (n : ℕ) → soundOf (linkAt s n) ≡ true
-  ok-link s o n = number-sound n 1 (s .table) (ok-sound s o)
+  ok-link s o n = found-sound n 1 (s .table) (ok-sound s o)
 
   refused-complies : {kept : Bool} (s : HeadState) (x : Reply) → Complies A 0 kept (refused (s .head) x) (s .table)
   refused-complies {kept} s x = record { lead = tt; links = nothing-behaves A kept 1 (s .table) }

@@ -7,24 +7,18 @@ use mathlib.Core.List.{List, [], _∷_, _++_, map, append-assoc}
 use lib.ListN.{length, take, drop}
 use lib.Seq.{take-append-seam, drop-append-seam}
 use Rattle.frame.specs.Layout.{encode}
-use Rattle.frame.specs.Range.{Valid}
 use Rattle.frame.specs.declared.Address.{Address}
 use Rattle.frame.specs.declared.Message.{Message}
-use Rattle.table.specs.Laws.{written-sixty}
 use Rattle.judging.specs.declared.Request.{Request}
 use Rattle.serving.specs.Serve.{serveOf}
-use Rattle.writer.proofs.Page.{write-done}
 use Rattle.headlaws.specs.Frames.{AllValid}
 use Rattle.headlaws.specs.Handed.{callFrames, call-valid, call-frames, call-octets}
-use Rattle.headlaws.specs.Pasted.{encoded}
+use Rattle.headlaws.specs.Pasted.{encoded, encode-length}
 use Rattle.headlaws.specs.Sends.{RequestTyped}
 use Rattle.wire.specs.Carried.{carries-back}
 use Rattle.wire.specs.Restarts.{tested, callsBox, downRestarts}
 use Rattle.pairlaw.specs.Laws.{All}
 use Rattle.headend.specs.End.{HeadState, framesIn, asked}
-
-sixty : (m : Message) → Valid m → length (encode m) ≡ 60
-sixty m v = rw (write-done m v) at (written-sixty m)
 
 -- a frame at the start of an output
 first : (f rest : List ℕ) → length f ≡ 60 → take 60 (f ++ rest) ≡ f
@@ -34,16 +28,16 @@ behind : (f rest : List ℕ) → length f ≡ 60 → drop 60 (f ++ rest) ≡ res
 behind f rest e = rw e at (drop-append-seam f rest)
 
 -- what is packed into an output stands in it
-packed-frames : (ms : List Message) (rest : List ℕ) → AllValid ms → framesIn (length ms) (encoded ms ++ rest) ≡ map encode ms
-packed-frames [] rest v = refl
-packed-frames (m ∷ ms) rest v =
+packed-frames : (ms : List Message) (rest : List ℕ) → framesIn (length ms) (encoded ms ++ rest) ≡ map encode ms
+packed-frames [] rest = refl
+packed-frames (m ∷ ms) rest =
     let f = encode m in
-    let long = sixty m (v .0) in
+    let long = encode-length m in
     let apart : (f ++ encoded ms) ++ rest ≡ f ++ (encoded ms ++ rest) = append-assoc f (encoded ms) rest in
     ap (λ (os : List ℕ). take 60 os ∷ framesIn (length ms) (drop 60 os)) apart
     ∙ ap (λ (x : List ℕ). x ∷ framesIn (length ms) (drop 60 (f ++ (encoded ms ++ rest)))) (first f (encoded ms ++ rest) long)
     ∙ ap (λ (os : List ℕ). f ∷ framesIn (length ms) os) (behind f (encoded ms ++ rest) long)
-    ∙ ap (λ (fs : List (List ℕ)). f ∷ fs) (packed-frames ms rest (v .1))
+    ∙ ap (λ (fs : List (List ℕ)). f ∷ fs) (packed-frames ms rest)
 
 encoded-quiet : (A : Address) (ms : List Message) → AllValid ms → All (λ m. callsBox A m ≡ false) ms
     → All (λ f. downRestarts A f ≡ false) (map encode ms)
@@ -61,7 +55,7 @@ module _ (s : HeadState) (r : Request) (out : List ℕ) (k : RequestTyped r) (c 
       let xs = s .table in
       ap (λ (n : ℕ). framesIn n (serveOf h xs r out .octets)) (call-frames h xs r out k c)
       ∙ ap (framesIn (length frames)) (call-octets h xs r out k c)
-      ∙ packed-frames frames (drop (60 * length frames) out) (call-valid h xs r out k c)
+      ∙ packed-frames frames (drop (60 * length frames) out)
 
   -- restarts no watchdog at A where no message of it does
   pub call-quiet : (A : Address) → All (λ m. callsBox A m ≡ false) frames → All (λ f. downRestarts A f ≡ false) (asked s r out .sent)

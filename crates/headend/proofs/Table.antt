@@ -14,7 +14,6 @@ use Rattle.frame.specs.declared.Address.{Address}
 use Rattle.frame.specs.declared.Body.{Body}
 use Rattle.lent.specs.Folds.{places}
 use Rattle.links.specs.Link.{idle}
-use Rattle.links.specs.Sound.{soundOf}
 use Rattle.links.specs.declared.Change.{Change}
 use Rattle.links.specs.declared.Link.{Link}
 use Rattle.links.specs.declared.Sent.{Sent}
@@ -24,7 +23,6 @@ use Rattle.table.specs.Events.{portOf, reactOf, reacted}
 use Rattle.table.specs.declared.Event.{Event}
 use Rattle.table.specs.declared.Sender.{Sender}
 use Rattle.headlaws.specs.Frames.{sentBy, linkFrames}
-use Rattle.headlaws.specs.Links.{idle-sound}
 use Rattle.headlaws.specs.Numbered.{Has, held-has}
 use Rattle.headlaws.specs.Table.{sound-first}
 use Rattle.wire.specs.Restarts.{restartsBox, callsBox}
@@ -32,13 +30,6 @@ use Rattle.pairlaw.specs.Laws.{All}
 use Rattle.pairlaw.proofs.Small.{all-join}
 use Rattle.headend.specs.End.{HeldLink}
 use Rattle.headend.proofs.Links.{Quiet, Falls, Behaves, falls-idle, still-behaves, May, change-behaves, tick-behaves}
-
--- the link of any number is sound
-pub number-sound : (n k : ℕ) (xs : List Link) → allSound xs ≡ true → soundOf (linkFrom n k xs) ≡ true
-number-sound n k [] h = idle-sound
-number-sound n k (x ∷ xs) h =
-    let p = sound-first x xs h in
-    either (λ (l : Link). soundOf l ≡ true) (eqb k n) _ _ (λ _. p .0) (λ _. number-sound n (suc k) xs (p .1))
 
 module _ (A : Address) where
   -- every link behaves at an event, where the first has the number k

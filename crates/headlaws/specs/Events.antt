@@ -34,7 +34,7 @@ unfolding soundTable
 table-of xs n s d = rw (n, s, d)
 
 -- the link of a number is sound
-found-sound : (number k : ℕ) (xs : List Link) → allSound xs ≡ true → soundOf (linkFrom number k xs) ≡ true
+pub found-sound : (number k : ℕ) (xs : List Link) → allSound xs ≡ true → soundOf (linkFrom number k xs) ≡ true
 found-sound number k [] s = idle-sound
 found-sound number k (x ∷ xs) s =
     let p = sound-first x xs s in

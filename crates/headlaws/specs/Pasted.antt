@@ -28,7 +28,7 @@ encoded-append [] ns = refl
 encoded-append (m ∷ ms) ns = rw (encoded-append ms ns) (sym (append-assoc (encode m) (encoded ms) (encoded ns)))
 
 -- every frame has sixty octets
-encode-length : (m : Message) → length (encode m) ≡ 60
+pub encode-length : (m : Message) → length (encode m) ≡ 60
 unfolding encode onto
 encode-length m = simp (length-append, length-replicate) (omega (arith, body-short (m .body)))
 

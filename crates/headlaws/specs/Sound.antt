@@ -47,7 +47,7 @@ module _ (xs : List Link) (k : Look) (n : isFew (length xs) ≡ true) where
   unfolding factsOf
   facts-idle = rw n
 
-  facts-held : factsOf xs k .held ≡ anyHolds (k .address) xs
+  pub facts-held : factsOf xs k .held ≡ anyHolds (k .address) xs
   unfolding factsOf
   facts-held = rw n
 

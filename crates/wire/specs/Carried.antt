@@ -1,19 +1,18 @@
 -- Frames on the fibre: the message that octets carry to the end that hears them, if the reader takes them.
 -- Assumes nothing.
-use Prim.Native.Nat.{ℕ, zero, suc, _/_, _%_, _-_, _<_}
-use mathlib.Core.Path.{_≡_, refl, sym, ap, _∙_}
-use mathlib.Core.Bool.{Bool, true, false, cond, _&&_, and-eq-true-iff, true≢false}
+use Prim.Native.Nat.{ℕ, zero, suc, _/_, _%_, _-_}
+use mathlib.Core.Path.{_≡_, refl}
+use mathlib.Core.Bool.{Bool, true, false, cond, _&&_, and-eq-true-iff}
 use mathlib.Core.List.{List, [], _∷_, _++_}
 use mathlib.Core.Option.{Option, none, some}
 use native.Mathlib.Omega.{arith}
 use borrow.Author.Tests.{eqb-true, ltb-true, lt-ltb}
 use lib.Dec.{eqb, ltb}
-use lib.ListN.{length, replicate, getD}
+use lib.ListN.{length, replicate}
 use Rattle.octets.specs.Octets.{onto, bytes, valueFrom, Octets}
 use Rattle.frame.specs.Card.{numberOf}
 use Rattle.frame.specs.Layout.{headerOf, listed, firstOctet, perGrant, registerReqFlag, registerFlag, registerAckFlag, opcodeOf, bodyOctets, encode}
 use Rattle.frame.specs.Range.{Valid}
-use Rattle.clock.specs.declared.Quanta.{Quanta}
 use Rattle.frame.specs.declared.Body.{Body}
 use Rattle.frame.specs.declared.Body.the-variants.{Gate, Discovery, Report, RegisterReq, Register, RegisterAck}
 use Rattle.frame.specs.declared.Grant.{Grant}
