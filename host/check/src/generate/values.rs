@@ -1,0 +1,85 @@
+//! Values that lie where mistakes are made.
+
+use crustnewt::dice::Dice;
+use plain::{Address, Count};
+
+/// The head of most cases.
+pub(crate) const HEAD: Address = Address(0x0200_0000_0001);
+/// The box of most cases.
+pub(crate) const BOX: Address = Address(0x0200_0000_0031);
+
+/// A number at or near the ends of 0 .. `longest`, or anywhere.
+pub(crate) fn edgy(dice: &mut Dice, longest: u32) -> u32 {
+    match dice.below(10) {
+        0 => 0,
+        1 | 2 => 1,
+        3 => 2,
+        4 => longest,
+        5 => longest.saturating_sub(1),
+        6 => longest.saturating_add(1),
+        7 => dice.below(100) as u32,
+        8 => dice.half(),
+        _ => dice.below(u64::from(longest) + 1) as u32,
+    }
+}
+
+/// A number in 1 .. `longest`, often at an end.
+pub(crate) fn running(dice: &mut Dice, longest: u32) -> u32 {
+    edgy(dice, longest).clamp(1, longest.max(1))
+}
+
+/// A length or sync time that the wire can hold.
+pub(crate) fn quanta(dice: &mut Dice) -> u32 {
+    let near = dice.pick(&[0, 10, 42, 73, 74, 75, 84, 174, 65_461, 65_462, 65_535]);
+    match dice.below(3) {
+        0 => near,
+        1 => dice.below(400) as u32,
+        _ => edgy(dice, 65_535).min(65_535),
+    }
+}
+
+/// A sync time, mostly one that leaves room in a grant.
+pub(crate) fn sync(dice: &mut Dice) -> u32 {
+    match dice.below(4) {
+        0 => quanta(dice),
+        1 => 0,
+        _ => dice.below(50) as u32,
+    }
+}
+
+/// A count, often close to the wrap.
+pub(crate) fn count(dice: &mut Dice) -> Count {
+    Count(match dice.below(4) {
+        0 => dice.below(300) as u32,
+        1 => (dice.below(300) as u32).wrapping_sub(150),
+        2 => 0x8000_0000_u32.wrapping_add(dice.below(9) as u32),
+        _ => dice.half(),
+    })
+}
+
+/// A count before, at or after another.
+pub(crate) fn near(dice: &mut Dice, count: Count) -> Count {
+    let offset = match dice.below(8) {
+        0 => 0,
+        1 => dice.below(10) as u32,
+        2 => (dice.below(10) as u32).wrapping_neg(),
+        3 => 62_500_000 + dice.below(3) as u32 - 1,
+        4 => 0x8000_0000_u32.wrapping_add(dice.below(3) as u32) - 1,
+        5 => dice.half(),
+        _ => dice.below(500) as u32,
+    };
+    Count(count.0.wrapping_add(offset))
+}
+
+/// An address: one of the parties', another box's, or no party's at all.
+pub(crate) fn address(dice: &mut Dice) -> Address {
+    match dice.below(12) {
+        0..=2 => HEAD,
+        3..=5 => BOX,
+        6 | 7 => Address(BOX.0 + dice.below(64)),
+        8 => Address::EVERYONE,
+        9 => Address::ZERO,
+        10 => Address(dice.word() >> 16),
+        _ => dice.pick(&[Address(0xFFFF_FFFF_FFFF), Address(0x0100_0000_0000)]),
+    }
+}

@@ -1,0 +1,174 @@
+//! Values that the replay language can't write: addresses of more than 48
+//! bits, lengths and sync times of more than 16. Both cores are asked
+//! directly, one call at a time.
+
+use crate::generate::messages::{any_message, granted};
+use crate::generate::states::{any_box, any_head, any_links};
+use crate::generate::values::{address, count, sync};
+use crustnewt::dice::Dice;
+use crustnewt_core::{Core, HeadCore, Newcomer};
+use plain::{
+    Address, Body, FloorBox, Gate, GateRequest, Grant, GrantList, Light, Link, Message, OpenWindow,
+};
+use std::fmt::Debug;
+
+/// Makes the calls of this seed on both; how they differ, if they do.
+pub fn compare_wide(first: &dyn Core, second: &dyn Core, seed: u64) -> Option<String> {
+    let [told_first, told_second] = [first, second].map(|core| {
+        let mut dice = Dice::new(seed);
+        [
+            writing(core, &mut dice),
+            box_call(core, &mut dice),
+            head_call(core, &mut dice),
+        ]
+    });
+    let mut pairs = told_first.into_iter().zip(told_second);
+    let (first, second) = pairs.find(|(first, second)| first != second)?;
+    Some(format!("first:  {first}\nsecond: {second}"))
+}
+
+fn writing(core: &dyn Core, dice: &mut Dice) -> String {
+    let message = wide_message(dice);
+    told(&message, core.write(&message))
+}
+
+fn box_call(core: &dyn Core, dice: &mut Dice) -> String {
+    let mut state = any_box(dice);
+    if dice.chance(400) {
+        widen_box(dice, &mut state);
+    }
+    let mut floor_box = core.floor_box();
+    floor_box.set_state(&state);
+    let message = Message {
+        to: state.address,
+        ..wide_message(dice)
+    };
+    let reply = match dice.below(3) {
+        0 => floor_box.tick(),
+        1 => floor_box.fresh(wide_address(dice)),
+        _ => floor_box.hear(&message, 0),
+    };
+    told(&(state, message), (reply, floor_box.state()))
+}
+
+fn head_call(core: &dyn Core, dice: &mut Dice) -> String {
+    let (state, mut table) = (any_head(dice), any_links(dice, 2));
+    if dice.chance(200) {
+        table[0].address = wide_address(dice);
+    }
+    let mut head = core.head();
+    head.lend_links(table.len());
+    head.lend_output(vec![0xEE; 120]);
+    head.set_state(&state);
+    for (place, link) in table.iter().enumerate() {
+        head.set_link(place, link);
+    }
+    let asked = (dice.clone(), state, table);
+    let reply = head_request(&mut *head, dice);
+    let links: Vec<Link> = (0..head.links()).map(|place| head.link(place)).collect();
+    told(&asked, (reply, head.state(), links, head.output()))
+}
+
+fn head_request(head: &mut dyn HeadCore, dice: &mut Dice) -> impl Debug {
+    let newcomer = Newcomer {
+        address: wide_address(dice),
+        pending: 1,
+        sync: wide(dice, 7),
+    };
+    let mut grants = [Grant::default(); Gate::MOST];
+    for grant in &mut grants {
+        *grant = wide_grant(dice);
+    }
+    match dice.below(6) {
+        0 => head.admit(&newcomer),
+        1 => head.reject(&newcomer),
+        2 => head.reregister(1, newcomer.sync),
+        3 => head.open_window(&OpenWindow {
+            grant: grants[0],
+            sync: newcomer.sync,
+            window: 1,
+        }),
+        4 => head.gate(&GateRequest {
+            link: 1,
+            force: 0,
+            asked: dice.below(6),
+            grants,
+        }),
+        _ => head.hear(dice.below(3), &wide_message(dice)),
+    }
+}
+
+fn told(asked: &impl Debug, answered: impl Debug) -> String {
+    format!("{asked:?}\n  answered {answered:?}")
+}
+
+/// The number, or one that doesn't fit 16 bits.
+fn wide(dice: &mut Dice, number: u32) -> u32 {
+    match dice.below(3) {
+        0 => dice.pick(&[65_536, 65_537, 1 << 17, u32::MAX, u32::MAX - 73]),
+        _ => number,
+    }
+}
+
+fn wide_address(dice: &mut Dice) -> Address {
+    let address = address(dice);
+    match dice.below(3) {
+        0 => Address(address.0 | dice.pick(&[1 << 48, 1 << 63])),
+        _ => address,
+    }
+}
+
+fn wide_grant(dice: &mut Dice) -> Grant {
+    let now = count(dice);
+    let grant = granted(dice, now).grant;
+    Grant {
+        length: wide(dice, grant.length),
+        ..grant
+    }
+}
+
+fn wide_message(dice: &mut Dice) -> Message {
+    let mut message = any_message(dice);
+    message.from = wide_address(dice);
+    match &mut message.body {
+        Body::Gate(gate) => {
+            let mut grants: Vec<_> = gate.iter().collect();
+            for granted in &mut grants {
+                granted.grant.length = wide(dice, granted.grant.length);
+            }
+            *gate = Gate::of(&grants).unwrap_or_default();
+        }
+        Body::Discovery { granted, sync } => {
+            granted.grant.length = wide(dice, granted.grant.length);
+            *sync = wide(dice, *sync);
+        }
+        Body::Register { sync, .. } | Body::RegisterAck { sync, .. } => *sync = wide(dice, *sync),
+        Body::Report | Body::RegisterReq { .. } => {}
+    }
+    message
+}
+
+fn widen_box(dice: &mut Dice, state: &mut FloorBox) {
+    let own = sync(dice);
+    match dice.below(4) {
+        0 => state.sync = wide(dice, own),
+        1 => state.address = wide_address(dice),
+        2 => {
+            let grants = [wide_grant(dice), wide_grant(dice)];
+            state.grants = GrantList::of(&grants).unwrap_or_default();
+        }
+        _ => {
+            let (length, sync) = (wide(dice, 200), wide(dice, own));
+            let left = 1;
+            state.light = dice.pick(&[
+                Light::Lit { left, length, sync },
+                Light::Random { left, sync },
+                Light::Before {
+                    left,
+                    random: length,
+                    sync,
+                },
+            ]);
+        }
+    }
+}

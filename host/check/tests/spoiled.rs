@@ -1,0 +1,242 @@
+//! The checks find a core that is spoiled in a small way.
+
+use check::{check, check_fixed, compare, compare_wide};
+use crustnewt::replay::replay;
+use crustnewt_core::{BoxCore, BoxReply, Core, HeadCore, HeadReply, Newcomer, PlainCore};
+use plain::{Address, Body, FloorBox, Frame, GateRequest, Head, Link, Message, Next, OpenWindow};
+
+/// What is wrong with a spoiled core.
+#[derive(Clone, Copy, Debug, PartialEq, Eq)]
+enum Flaw {
+    None,
+    /// A discovery GATE restarts the watchdog: floor 31 again.
+    WatchdogOnDiscovery,
+    /// Setting the count moves no timer, but here it does.
+    CountMovesReport,
+    /// One octet after the last frame is written.
+    StrayOctet,
+    /// A frame fits a window that is one tick short.
+    FitsShortWindow,
+    /// The writer keeps wide lengths.
+    WritesWide,
+    /// A refused tick still moves the head's count.
+    RefusedTickCounts,
+    /// The grant waited for is forgotten, in a field that no line prints.
+    HiddenField,
+}
+
+struct Spoiled(Flaw);
+
+struct SpoiledHead(Flaw, Box<dyn HeadCore>);
+
+struct SpoiledBox(Flaw, Box<dyn BoxCore>);
+
+impl Core for Spoiled {
+    fn read(&self, frame: &[u8]) -> Result<Message, u8> {
+        PlainCore.read(frame)
+    }
+
+    fn write(&self, message: &Message) -> (u8, Frame) {
+        let (number, frame) = PlainCore.write(message);
+        match self.0 {
+            Flaw::WritesWide => (0, frame),
+            _ => (number, frame),
+        }
+    }
+
+    fn head(&self) -> Box<dyn HeadCore> {
+        Box::new(SpoiledHead(self.0, PlainCore.head()))
+    }
+
+    fn floor_box(&self) -> Box<dyn BoxCore> {
+        Box::new(SpoiledBox(self.0, PlainCore.floor_box()))
+    }
+}
+
+impl HeadCore for SpoiledHead {
+    fn lend_links(&mut self, links: usize) {
+        self.1.lend_links(links);
+    }
+    fn lend_output(&mut self, output: Vec<u8>) {
+        self.1.lend_output(output);
+    }
+    fn fresh(&mut self, address: Address) -> HeadReply {
+        self.1.fresh(address)
+    }
+    fn open_window(&mut self, request: &OpenWindow) -> HeadReply {
+        self.1.open_window(request)
+    }
+    fn admit(&mut self, newcomer: &Newcomer) -> HeadReply {
+        self.1.admit(newcomer)
+    }
+    fn reject(&mut self, newcomer: &Newcomer) -> HeadReply {
+        self.1.reject(newcomer)
+    }
+    fn reregister(&mut self, link: u64, sync: u32) -> HeadReply {
+        self.1.reregister(link, sync)
+    }
+    fn deregister(&mut self, link: u64) -> HeadReply {
+        self.1.deregister(link)
+    }
+    fn gate(&mut self, request: &GateRequest) -> HeadReply {
+        self.1.gate(request)
+    }
+    fn hear(&mut self, link: u64, message: &Message) -> HeadReply {
+        self.1.hear(link, message)
+    }
+    fn tick(&mut self) -> HeadReply {
+        let reply = self.1.tick();
+        let at = 60 * reply.frames;
+        if self.0 == Flaw::StrayOctet && reply.frames > 0 && at < self.1.output().len() {
+            let mut output = self.1.output().to_vec();
+            output[at] = 0;
+            self.1.lend_output(output);
+        }
+        if self.0 == Flaw::RefusedTickCounts && reply.number != 0 {
+            let mut state = self.1.state();
+            state.count = state.count.next();
+            self.1.set_state(&state);
+        }
+        reply
+    }
+    fn state(&self) -> Head {
+        self.1.state()
+    }
+    fn set_state(&mut self, state: &Head) {
+        self.1.set_state(state);
+    }
+    fn links(&self) -> usize {
+        self.1.links()
+    }
+    fn link(&self, place: usize) -> Link {
+        self.1.link(place)
+    }
+    fn set_link(&mut self, place: usize, link: &Link) {
+        self.1.set_link(place, link);
+    }
+    fn output(&self) -> &[u8] {
+        self.1.output()
+    }
+}
+
+impl SpoiledBox {
+    fn change(&mut self, change: impl FnOnce(&mut FloorBox)) {
+        let mut state = self.1.state();
+        change(&mut state);
+        self.1.set_state(&state);
+    }
+}
+
+impl BoxCore for SpoiledBox {
+    fn fresh(&mut self, address: Address) -> BoxReply {
+        self.1.fresh(address)
+    }
+    fn register(&mut self) -> BoxReply {
+        self.1.register()
+    }
+    fn deregister(&mut self) -> BoxReply {
+        self.1.deregister()
+    }
+    fn hear(&mut self, message: &Message, random: u32) -> BoxReply {
+        let reply = self.1.hear(message, random);
+        let discovery = matches!(message.body, Body::Discovery { .. });
+        let registered = reply.number == 0 && self.1.state().watchdog > 0;
+        if self.0 == Flaw::WatchdogOnDiscovery && discovery && registered {
+            self.change(|state| state.watchdog = 62_500_000);
+        }
+        if self.0 == Flaw::CountMovesReport && registered && reply.drift == 1 {
+            self.change(|state| state.report = state.report.max(2) - 1);
+        }
+        reply
+    }
+    fn tick(&mut self) -> BoxReply {
+        let reply = self.1.tick();
+        if let plain::Light::Lit {
+            left: 32, length, ..
+        } = self.1.state().light
+        {
+            if self.0 == Flaw::HiddenField {
+                self.change(|state| {
+                    let (left, length) = (32, length.max(75) - 1);
+                    state.light = plain::Light::Lit {
+                        left,
+                        length,
+                        sync: 0,
+                    };
+                });
+            }
+        }
+        reply
+    }
+    fn next(&self, control: usize, data: usize) -> Next {
+        let shorter = control.saturating_sub(2);
+        match self.0 {
+            Flaw::FitsShortWindow => self.1.next(shorter, data),
+            _ => self.1.next(control, data),
+        }
+    }
+    fn state(&self) -> FloorBox {
+        self.1.state()
+    }
+    fn set_state(&mut self, state: &FloorBox) {
+        self.1.set_state(state);
+    }
+}
+
+/// Lines of the shortest script that shows a flaw.
+fn found(flaw: Flaw) -> Option<usize> {
+    let spoiled = Spoiled(flaw);
+    let failure = (1..8000).find_map(|seed| check(&PlainCore, &spoiled, seed).err())?;
+    assert!(compare(&PlainCore, &spoiled, &failure.script).is_some());
+    let mut played = Vec::new();
+    replay(&PlainCore, failure.to_string().as_bytes(), &mut played).unwrap();
+    assert!(!played.contains(&b'?'), "{failure}");
+    let shorter = failure.script.iter().enumerate().map(|(drop, _)| {
+        let mut rest = failure.script.clone();
+        rest.remove(drop);
+        rest
+    });
+    for rest in shorter {
+        assert_eq!(compare(&PlainCore, &spoiled, &rest), None);
+    }
+    Some(failure.script.len())
+}
+
+#[test]
+fn equal_cores_do_not_differ() {
+    for seed in 0..400 {
+        assert!(check(&PlainCore, &Spoiled(Flaw::None), seed).is_ok());
+        assert_eq!(compare_wide(&PlainCore, &Spoiled(Flaw::None), seed), None);
+    }
+}
+
+#[test]
+fn fixed_cases_find_flaws_too() {
+    assert!(check_fixed(&PlainCore, &Spoiled(Flaw::None)).is_ok());
+    for flaw in [Flaw::WatchdogOnDiscovery, Flaw::StrayOctet] {
+        let failure = check_fixed(&PlainCore, &Spoiled(flaw)).unwrap_err();
+        assert!(failure.script.len() <= 6, "{failure}");
+    }
+}
+
+#[test]
+fn each_flaw_is_found_and_shrunk() {
+    for flaw in [
+        Flaw::WatchdogOnDiscovery,
+        Flaw::CountMovesReport,
+        Flaw::StrayOctet,
+        Flaw::FitsShortWindow,
+        Flaw::RefusedTickCounts,
+        Flaw::HiddenField,
+    ] {
+        let lines = found(flaw);
+        assert!(lines.is_some_and(|lines| lines <= 8), "{flaw:?} {lines:?}");
+    }
+}
+
+#[test]
+fn wide_values_find_a_writer_that_keeps_them() {
+    let spoiled = Spoiled(Flaw::WritesWide);
+    assert!((0..200).any(|seed| compare_wide(&PlainCore, &spoiled, seed).is_some()));
+    assert!((0..200).all(|seed| check(&PlainCore, &spoiled, seed).is_ok()));
+}

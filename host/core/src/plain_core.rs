@@ -1,0 +1,207 @@
+//! The plain implementation as a core.
+
+use crate::{BoxCore, BoxReply, Core, HeadCore, HeadReply, Newcomer};
+use plain::{
+    frame, Address, BoxAnswer, FloorBox, Frame, GateRequest, Head, HeadAnswer, Link, Message, Next,
+    OpenWindow, Refusal,
+};
+
+/// The plain implementation.
+#[derive(Clone, Copy, Debug, Default)]
+pub struct PlainCore;
+
+impl Core for PlainCore {
+    fn read(&self, frame: &[u8]) -> Result<Message, u8> {
+        frame::read(frame).map_err(Refusal::number)
+    }
+
+    fn write(&self, message: &Message) -> (u8, Frame) {
+        match frame::write(message) {
+            Ok(frame) => (0, frame),
+            Err(refusal) => (refusal.number(), [0; frame::FRAME_OCTETS]),
+        }
+    }
+
+    fn head(&self) -> Box<dyn HeadCore> {
+        Box::new(PlainHead::default())
+    }
+
+    fn floor_box(&self) -> Box<dyn BoxCore> {
+        Box::new(FloorBox::default())
+    }
+}
+
+#[derive(Default)]
+struct PlainHead {
+    head: Head,
+    links: Vec<Link>,
+    output: Vec<u8>,
+}
+
+impl HeadCore for PlainHead {
+    fn lend_links(&mut self, links: usize) {
+        self.links.resize(links, Link::IDLE);
+    }
+
+    fn lend_output(&mut self, output: Vec<u8>) {
+        self.output = output;
+    }
+
+    fn fresh(&mut self, address: Address) -> HeadReply {
+        let (head, answer) = Head::fresh(address, &mut self.links);
+        self.head = head;
+        answer.into()
+    }
+
+    fn open_window(&mut self, request: &OpenWindow) -> HeadReply {
+        self.head
+            .open_window(&self.links, &mut self.output, request)
+            .into()
+    }
+
+    fn admit(&mut self, newcomer: &Newcomer) -> HeadReply {
+        let Newcomer {
+            address,
+            pending,
+            sync,
+        } = *newcomer;
+        self.head
+            .admit(&mut self.links, &mut self.output, address, pending, sync)
+            .into()
+    }
+
+    fn reject(&mut self, newcomer: &Newcomer) -> HeadReply {
+        let Newcomer {
+            address,
+            pending,
+            sync,
+        } = *newcomer;
+        self.head
+            .reject(&self.links, &mut self.output, address, pending, sync)
+            .into()
+    }
+
+    fn reregister(&mut self, link: u64, sync: u32) -> HeadReply {
+        self.head
+            .reregister(&mut self.links, &mut self.output, link, sync)
+            .into()
+    }
+
+    fn deregister(&mut self, link: u64) -> HeadReply {
+        self.head
+            .deregister(&mut self.links, &mut self.output, link)
+            .into()
+    }
+
+    fn gate(&mut self, request: &GateRequest) -> HeadReply {
+        self.head
+            .gate(&mut self.links, &mut self.output, request)
+            .into()
+    }
+
+    fn hear(&mut self, link: u64, message: &Message) -> HeadReply {
+        self.head
+            .hear(&mut self.links, &mut self.output, link, message)
+            .into()
+    }
+
+    fn tick(&mut self) -> HeadReply {
+        self.head.tick(&mut self.links, &mut self.output).into()
+    }
+
+    fn state(&self) -> Head {
+        self.head
+    }
+
+    fn set_state(&mut self, state: &Head) {
+        self.head = *state;
+    }
+
+    fn links(&self) -> usize {
+        self.links.len()
+    }
+
+    fn link(&self, place: usize) -> Link {
+        self.links[place]
+    }
+
+    fn set_link(&mut self, place: usize, link: &Link) {
+        self.links[place] = *link;
+    }
+
+    fn output(&self) -> &[u8] {
+        &self.output
+    }
+}
+
+impl BoxCore for FloorBox {
+    fn fresh(&mut self, address: Address) -> BoxReply {
+        let (fresh, answer) = FloorBox::fresh(address);
+        *self = fresh;
+        answer.into()
+    }
+
+    fn register(&mut self) -> BoxReply {
+        FloorBox::register(self).into()
+    }
+
+    fn deregister(&mut self) -> BoxReply {
+        FloorBox::deregister(self).into()
+    }
+
+    fn hear(&mut self, message: &Message, random: u32) -> BoxReply {
+        FloorBox::hear(self, message, random).into()
+    }
+
+    fn tick(&mut self) -> BoxReply {
+        FloorBox::tick(self).into()
+    }
+
+    fn next(&self, control: usize, data: usize) -> Next {
+        FloorBox::next(self, control, data)
+    }
+
+    fn state(&self) -> FloorBox {
+        *self
+    }
+
+    fn set_state(&mut self, state: &FloorBox) {
+        *self = *state;
+    }
+}
+
+impl From<Result<HeadAnswer, Refusal>> for HeadReply {
+    fn from(answer: Result<HeadAnswer, Refusal>) -> HeadReply {
+        match answer {
+            Ok(HeadAnswer { frames, notice }) => HeadReply {
+                number: 0,
+                frames,
+                notice,
+            },
+            Err(refusal) => HeadReply {
+                number: refusal.number(),
+                ..HeadReply::default()
+            },
+        }
+    }
+}
+
+impl From<Result<BoxAnswer, Refusal>> for BoxReply {
+    fn from(answer: Result<BoxAnswer, Refusal>) -> BoxReply {
+        match answer {
+            // Most ticks answer nothing, and making an empty reply is cheaper
+            // than moving an empty answer.
+            Ok(answer) if answer == BoxAnswer::default() => BoxReply::default(),
+            Ok(answer) => BoxReply {
+                number: 0,
+                drift: answer.drift,
+                frames: answer.frames,
+                notices: answer.notices,
+            },
+            Err(refusal) => BoxReply {
+                number: refusal.number(),
+                ..BoxReply::default()
+            },
+        }
+    }
+}

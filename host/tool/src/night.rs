@@ -1,0 +1,48 @@
+//! A simulated night: a head and its boxes on a fibre.
+
+mod fibre;
+mod floor;
+mod head_client;
+mod progress;
+mod record;
+mod scenario;
+mod skip;
+mod timeline;
+mod world;
+
+use crustnewt_core::Core;
+use std::io::{self, Write};
+use world::World;
+
+pub use progress::Progress;
+pub use scenario::Scenario;
+
+/// How a night is to go.
+#[derive(Clone, Copy, Debug)]
+pub struct Options {
+    /// What happens in it.
+    pub scenario: Scenario,
+    /// Number of boxes, 1 to 64.
+    pub boxes: usize,
+    /// Ticks from end to end of the fibre, at least 1.
+    pub delay: u64,
+    /// Frames lost of a thousand.
+    pub loss: u64,
+    /// Seed for losses and random waits.
+    pub seed: u64,
+    /// How many ticks it lasts.
+    pub ticks: u64,
+    /// Whether each tick is made one by one.
+    pub every_tick: bool,
+}
+
+/// Simulates a night and writes its timeline and closing table; true if no
+/// half-open pair lasted and no state turned out unsound.
+pub fn run(
+    core: &dyn Core,
+    options: &Options,
+    output: impl Write,
+    progress: &mut Progress,
+) -> io::Result<bool> {
+    World::new(core, options, output).run(progress)
+}

@@ -1,0 +1,101 @@
+//! Nights end as document 01 lets them.
+
+use crustnewt::night::{run, Options, Progress, Scenario};
+use crustnewt_core::PlainCore;
+use plain::numbers::TICKS_PER_SECOND;
+
+fn night(options: &Options) -> (bool, String) {
+    let mut output = Vec::new();
+    let mut progress = Progress::new(false, options.ticks);
+    let kept = run(&PlainCore, options, &mut output, &mut progress).unwrap();
+    (kept, String::from_utf8(output).unwrap())
+}
+
+fn options(scenario: Scenario) -> Options {
+    Options {
+        scenario,
+        boxes: 3,
+        delay: 62,
+        loss: scenario.loss(),
+        seed: 1,
+        ticks: scenario.seconds() * TICKS_PER_SECOND,
+        every_tick: false,
+    }
+}
+
+/// The tick at which a line of the timeline says this of floor 31.
+fn tick_of(timeline: &str, what: &str) -> u64 {
+    let told = |line: &&str| line.contains("floor 31") && line.contains(what);
+    let line = timeline.lines().rfind(told).unwrap();
+    let digits = line.split_whitespace().nth(3).unwrap();
+    digits.replace(',', "").parse().unwrap()
+}
+
+#[test]
+fn floor_31_leaves_within_its_watchdog_and_comes_back() {
+    for boxes in [1, 3, 40] {
+        floor_31(&Options {
+            boxes,
+            ..options(Scenario::Floor31)
+        });
+    }
+}
+
+fn floor_31(options: &Options) {
+    let (kept, timeline) = night(options);
+    assert!(kept, "{timeline}");
+    let dropped = tick_of(&timeline, "the head drops it");
+    let left = tick_of(&timeline, "leaves by itself");
+    let back = tick_of(&timeline, "is registered at both ends");
+    assert_eq!(dropped, 62_500_000);
+    // Its last GATE came no more than a round of gates and a delay before.
+    assert!(left > dropped + 62_500_000 - 1_100_000 && left <= dropped + 62_500_000 + 62);
+    assert!(back > left && back < left + 2 * 6_250_000);
+}
+
+#[test]
+fn on_a_quiet_night_nobody_is_dropped() {
+    let quiet = Options {
+        boxes: 64,
+        delay: 5000,
+        ticks: TICKS_PER_SECOND,
+        ..options(Scenario::Quiet)
+    };
+    let (kept, timeline) = night(&quiet);
+    assert!(kept, "{timeline}");
+    assert_eq!(timeline.matches("is registered at both ends").count(), 64);
+    assert!(!timeline.contains("drops") && !timeline.contains("leaves"));
+}
+
+#[test]
+fn no_half_open_pair_lasts_in_storm_and_dark() {
+    for scenario in [Scenario::Storm, Scenario::Dark] {
+        for seed in 0..3 {
+            let asked = Options {
+                seed,
+                ticks: 4 * TICKS_PER_SECOND,
+                ..options(scenario)
+            };
+            let (kept, timeline) = night(&asked);
+            assert!(kept, "{timeline}");
+        }
+    }
+}
+
+#[test]
+fn skipped_ticks_change_nothing() {
+    // Long enough for requests, registrations, retries and rounds of gates.
+    for (boxes, loss) in [(1, 0), (2, 400)] {
+        let skipping = Options {
+            boxes,
+            loss,
+            ticks: 3_500_000,
+            ..options(Scenario::Storm)
+        };
+        let every_tick = Options {
+            every_tick: true,
+            ..skipping
+        };
+        assert_eq!(night(&skipping), night(&every_tick));
+    }
+}
