@@ -1,2 +1,11 @@
 pub mod Demand
 pub mod Ticks
+pub mod Reach
+pub mod OnWay
+pub mod Quiet
+pub mod Messages
+pub mod Offering
+pub mod Asking
+pub mod Admitted
+pub mod Alike
+pub mod Way
