@@ -9,3 +9,8 @@ pub mod Asking
 pub mod Admitted
 pub mod Alike
 pub mod Way
+pub mod ExactWaits
+pub mod Pairs
+pub mod Lingers
+pub mod ExactBox
+pub mod Floor31
