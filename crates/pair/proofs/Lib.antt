@@ -9,8 +9,10 @@ pub mod Asking
 pub mod Admitted
 pub mod Alike
 pub mod Way
-pub mod ExactWaits
 pub mod Pairs
 pub mod Lingers
+pub mod ExactWaits
 pub mod ExactBox
+pub mod ExactHead
+pub mod Exact
 pub mod Floor31
