@@ -1,7 +1,7 @@
 -- A box in REGISTER_REQ that hears REGISTER ack is registered with a full watchdog, and hands out REGISTER_ACK 1 and a REPORT.
 -- Assumes nothing.
 use Prim.Native.Nat.{ℕ}
-use mathlib.Core.Path.{_≡_, refl, ap, _∙_}
+use mathlib.Core.Path.{_≡_, ap, _∙_}
 use mathlib.Core.List.{List, [], _∷_}
 use mathlib.Core.Option.{some}
 use borrow.Author.Tests.{eq-eqb}

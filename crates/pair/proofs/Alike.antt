@@ -1,7 +1,7 @@
 -- A box that hears as the floor box does, but perhaps for a discovery GATE in REGISTERED: the floor box, and that of floor 31.
 -- Assumes nothing.
 use Prim.Native.Nat.{ℕ}
-use mathlib.Core.Path.{_≡_, sym, ap, _∙_}
+use mathlib.Core.Path.{_≡_, refl, sym, ap, _∙_}
 use mathlib.Core.Bool.{false, _&&_}
 use mathlib.Core.List.{List}
 use mathlib.Core.Option.{Option, some}
@@ -18,6 +18,9 @@ abbrev pub Alike : (FloorBox → Message → ℕ → Answer) → Type 0
 Alike hears =
     (b : FloorBox) (m : Message) (random : ℕ) → (isDiscovery (m .body) && isRegistered (stateOf b)) ≡ false
     → hears b m random ≡ hearOf b m random
+
+pub floor-alike : Alike hearOf
+floor-alike b m random e = refl
 
 pub as-box : (A : Address) (hears : FloorBox → Message → ℕ → Answer) → Alike hears → (b : FloorBox) (random : ℕ) (os : List ℕ) (m : Message)
     → messageIn os ≡ some m → (isDiscovery (m .body) && isRegistered (stateOf b)) ≡ false

@@ -1,7 +1,7 @@
 -- The box's end of demand 3 is exact: the head holds no link for A through D + 62,499,999 ticks, and the box is registered at their end.
 -- Assumes nothing.
 use Prim.Native.Nat.{ℕ, _+_}
-use mathlib.Core.Path.{_≡_, refl}
+use mathlib.Core.Path.{_≡_}
 use mathlib.Core.Bool.{true}
 use mathlib.Core.List.{List}
 use native.Mathlib.Omega.{arith}
@@ -12,11 +12,11 @@ use Rattle.pairlaw.specs.Run.{End, Moment}
 use Rattle.boxend.specs.End.{BoxEnd}
 use Rattle.headend.specs.End.{HeadEnd}
 use Rattle.pair.specs.Exact.{BoxDrops}
-use Rattle.pair.proofs.Alike.{Alike}
+use Rattle.pair.proofs.Alike.{floor-alike}
 use Rattle.pair.proofs.Lingers.{Silent, Lingers, Echoes, lingers, echoes}
 use Rattle.pair.proofs.Pairs.{Dropped, to-dropped}
-use Rattle.pair.proofs.Reach.{Reach, next, span, span-length, span-through, span-ends}
-use Rattle.pair.proofs.Way.{start, start-fresh}
+use Rattle.pair.proofs.Reach.{Reach, next, shown}
+use Rattle.pair.proofs.Way.{start-fresh}
 
 module _ (A : Address) (i : isIndividual A ≡ true) (D : ℕ) where
   abbrev HE : End (List ℕ) (List ℕ)
@@ -25,32 +25,25 @@ module _ (A : Address) (i : isIndividual A ≡ true) (D : ℕ) where
   abbrev BE : End (List ℕ) (List ℕ)
   BE = BoxEnd A
 
-  abbrev same : Alike hearOf
-  same b m random e = refl
-
   abbrev M : Type 0
   M = Moment HE BE
 
   abbrev P : M → Type 0
-  P = Silent A i hearOf same D
+  P = Silent A i hearOf floor-alike D
 
   abbrev Q : M → Type 0
-  Q = Dropped A i hearOf same D
+  Q = Dropped A i hearOf floor-alike D
 
   abbrev R : M → Type 0
-  R = Lingers A i hearOf same D 0
+  R = Lingers A i hearOf floor-alike D 0
 
   stays : (m : M) → Q m → Reach HE BE D P m (D + 62_499_999) R
   stays m q =
-      next HE BE D P D 62_499_999 (Echoes A i hearOf same D 0) R (echoes A i hearOf same D m q)
-      (λ y e. lingers A i hearOf same D 62_499_999 y (e .full))
+      next HE BE D P D 62_499_999 (Echoes A i hearOf floor-alike D 0) R (echoes A i hearOf floor-alike D m q)
+      (λ y e. lingers A i hearOf floor-alike D 62_499_999 y (e .full))
 
   pub exact-box-drops : ¬ BoxDrops A D (D + 62_499_999)
   exact-box-drops f =
-      let s = start A i hearOf same D in
-      let fresh = start-fresh A i hearOf same D in
-      let way = to-dropped A i hearOf same D in
-      let n = D + 62_499_999 in
-      f (span HE BE D s fresh 32 n P Q R way stays) (omega (arith, span-length HE BE D s fresh 32 n P Q R way stays))
-      (span-through HE BE D s fresh 32 n P Q R way stays)
-      (tt, span-ends HE BE D s fresh 32 n P Q R way stays .box .state)
+      let fresh = start-fresh A i hearOf floor-alike D in
+      let x = shown HE BE D fresh 32 (D + 62_499_999) P Q R (to-dropped A i hearOf floor-alike D) stays in
+      f (x .span) (omega (arith, x .length)) (x .through) (tt, x .ends .box .state)

@@ -29,13 +29,13 @@ use Rattle.headend.proofs.Exact.{RegisteredFor, ready-tick, registered-ticks}
 use Rattle.headend.proofs.Heard.{group-for, report-restarts}
 use Rattle.headend.proofs.Ready.{Ready}
 use Rattle.pair.specs.Exact.{HeadDrops}
-use Rattle.pair.proofs.Alike.{Alike}
+use Rattle.pair.proofs.Alike.{floor-alike}
 use Rattle.pair.proofs.Messages.{IsReport}
 use Rattle.pair.proofs.OnWay.{OnWay, stays-on, ticks-on}
 use Rattle.pair.proofs.Pairs.{Paired, to-pair}
 use Rattle.pair.proofs.Quiet.{out}
-use Rattle.pair.proofs.Reach.{Reach, by, one, next, again, Any, span, span-length, span-through, span-ends}
-use Rattle.pair.proofs.Way.{start, start-fresh}
+use Rattle.pair.proofs.Reach.{Reach, by, one, next, again, Any, then, shown}
+use Rattle.pair.proofs.Way.{start-fresh}
 
 module _ (A : Address) (i : isIndividual A ≡ true) (D : ℕ) where
   abbrev HE : End (List ℕ) (List ℕ)
@@ -43,9 +43,6 @@ module _ (A : Address) (i : isIndividual A ≡ true) (D : ℕ) where
 
   abbrev BE : End (List ℕ) (List ℕ)
   BE = BoxEnd A
-
-  abbrev same : Alike hearOf
-  same b m random e = refl
 
   abbrev M : Type 0
   M = Moment HE BE
@@ -111,10 +108,10 @@ module _ (A : Address) (i : isIndividual A ≡ true) (D : ℕ) where
         λ e. false≢true (sym (ap (λ (x : Registration). isRegistered (x .state)) r) ∙ ap isRegistered e),
       )
 
-  left : (m : M) → Paired A i hearOf same D m → Reach HE BE D (Any HE BE D) m 0 (Echoes D)
+  left : (m : M) → Paired A i hearOf floor-alike D m → Reach HE BE D (Any HE BE D) m 0 (Echoes D)
   left m q =
       let x = leaves (m .box) 62_500_000 (q .1) in
-      one HE BE D (Any HE BE D) m (Echoes D) (box-call deregister) tt tt tt
+      then HE BE D m (Echoes D) (box-call deregister) tt
       (record {
         full = record { ready = q .0 .ready; link = q .0 .link; ok = x .0; none = λ r. x .1 (r .1) };
         age = 0;
@@ -129,11 +126,7 @@ module _ (A : Address) (i : isIndividual A ≡ true) (D : ℕ) where
 
   pub exact-head-drops : ¬ HeadDrops A D (D + 62_499_999)
   exact-head-drops f =
-      let s = start A i hearOf same D in
-      let fresh = start-fresh A i hearOf same D in
-      let way = next HE BE D (Any HE BE D) 32 0 (Paired A i hearOf same D) (Echoes D) (to-pair A i hearOf same D) left in
-      let n = D + 62_499_999 in
-      f (span HE BE D s fresh 32 n Out (Echoes D) (Lingers 0) way stays)
-      (omega (arith, span-length HE BE D s fresh 32 n Out (Echoes D) (Lingers 0) way stays))
-      (span-through HE BE D s fresh 32 n Out (Echoes D) (Lingers 0) way stays)
-      (1, span-ends HE BE D s fresh 32 n Out (Echoes D) (Lingers 0) way stays .link .0)
+      let fresh = start-fresh A i hearOf floor-alike D in
+      let way = next HE BE D (Any HE BE D) 32 0 (Paired A i hearOf floor-alike D) (Echoes D) (to-pair A i hearOf floor-alike D) left in
+      let x = shown HE BE D fresh 32 (D + 62_499_999) Out (Echoes D) (Lingers 0) way stays in
+      f (x .span) (omega (arith, x .length)) (x .through) (1, x .ends .link .0)

@@ -1,14 +1,13 @@
 -- The waits of demand 3 are exact: a box asks, and a head's link waits, at every moment of a span of 3,124,999 ticks.
 -- Assumes nothing.
 use Prim.Native.Nat.{ℕ, suc}
-use mathlib.Core.Path.{_≡_, refl}
+use mathlib.Core.Path.{_≡_}
 use mathlib.Core.Bool.{true}
 use mathlib.Core.List.{List}
 use native.Mathlib.Omega.{arith}
 use Rattle.frame.specs.declared.Address.{Address}
 use Rattle.range.specs.Fits.{isIndividual}
 use Rattle.head.specs.Head.{begun}
-use Rattle.floorbox.specs.Box.{freshOf}
 use Rattle.floorbox.specs.Hear.{hearOf}
 use Rattle.pairlaw.specs.Run.{End, Moment, head-call, both-tick}
 use Rattle.boxend.specs.End.{BoxEnd}
@@ -19,10 +18,11 @@ use Rattle.headend.specs.End.{linkAt, asks, HeadEnd}
 use Rattle.headend.proofs.Exact.{WaitingFor, ready-tick, waiting-ticks}
 use Rattle.headend.proofs.Ready.{Ready}
 use Rattle.pair.specs.Exact.{BoxWaits, HeadWaits}
+use Rattle.pair.proofs.Alike.{floor-alike}
 use Rattle.pair.proofs.Asking.{at-fresh}
 use Rattle.pair.proofs.Offering.{Waits, admit, admits}
 use Rattle.pair.proofs.Quiet.{out, H, begunHead, begun-free}
-use Rattle.pair.proofs.Reach.{Reach, one, again, Any, span, span-length, span-through}
+use Rattle.pair.proofs.Reach.{Reach, one, again, Any, then, shown}
 use Rattle.pair.proofs.Way.{start, start-fresh, Asks, to-asks}
 
 module _ (A : Address) (i : isIndividual A ≡ true) (D : ℕ) where
@@ -36,7 +36,7 @@ module _ (A : Address) (i : isIndividual A ≡ true) (D : ℕ) where
   M = Moment HE BE
 
   abbrev from : M
-  from = start A i hearOf (λ b m random e. refl) D
+  from = start A i hearOf floor-alike D
 
   -- the box asks
   abbrev Asking : M → Type 0
@@ -51,20 +51,14 @@ module _ (A : Address) (i : isIndividual A ≡ true) (D : ℕ) where
       let b = asking-tick A (m .box) k (w .1) in
       one HE BE D Asking m (AsksFor k) (both-tick out tt) (y .reply, tick-done A (m .box) (w .1 .ok)) (w .1 .state) (b .state) (y .ready, b)
 
-  asking : (m : M) → Asks A i hearOf (λ b m random e. refl) D m → Reach HE BE D Asking m 3_124_999 (AsksFor 0)
+  asking : (m : M) → Asks A i hearOf floor-alike D m → Reach HE BE D Asking m 3_124_999 (AsksFor 0)
   asking m w = again HE BE D Asking AsksFor (λ k y v. v .1 .state) asks-on 3_124_999 m (w .0 .quiet .ready, w .1)
 
   pub exact-box-wait : ¬ BoxWaits A D 3_124_999
   exact-box-wait f =
-      let fresh = start-fresh A i hearOf (λ b m random e. refl) D in
-      let way = to-asks A i hearOf (λ b m random e. refl) D in
-      let Q = Asks A i hearOf (λ b m random e. refl) D in
-      omega (
-        arith,
-        span-length HE BE D from fresh 32 3_124_999 Asking Q (AsksFor 0) way asking,
-        f (span HE BE D from fresh 32 3_124_999 Asking Q (AsksFor 0) way asking) tt
-            (span-through HE BE D from fresh 32 3_124_999 Asking Q (AsksFor 0) way asking),
-      )
+      let fresh = start-fresh A i hearOf floor-alike D in
+      let x = shown HE BE D fresh 32 3_124_999 Asking (Asks A i hearOf floor-alike D) (AsksFor 0) (to-asks A i hearOf floor-alike D) asking in
+      omega (arith, x .length, f (x .span) tt (x .through))
 
   -- a link waits: the head admits a box that never answers
   abbrev Waiting : M → Type 0
@@ -75,7 +69,7 @@ module _ (A : Address) (i : isIndividual A ≡ true) (D : ℕ) where
 
   admitting : Reach HE BE D (Any HE BE D) from 0 Admitted
   admitting =
-      one HE BE D (Any HE BE D) from Admitted (head-call (asks (admit A i (begun H) begunHead) out)) (omega arith, tt, tt) tt tt
+      then HE BE D from Admitted (head-call (asks (admit A i (begun H) begunHead) out)) (omega arith, tt, tt)
       (admits A i (begun H) begunHead (begun-free A) .0, at-fresh A i .1 .ok)
 
   abbrev WaitsFor : ℕ → M → Type 0
@@ -94,10 +88,6 @@ module _ (A : Address) (i : isIndividual A ≡ true) (D : ℕ) where
 
   pub exact-head-wait : ¬ HeadWaits A D 3_124_999
   exact-head-wait f =
-      let fresh = start-fresh A i hearOf (λ b m random e. refl) D in
-      omega (
-        arith,
-        span-length HE BE D from fresh 0 3_124_999 Waiting Admitted (WaitsFor 0) admitting waiting,
-        f (span HE BE D from fresh 0 3_124_999 Waiting Admitted (WaitsFor 0) admitting waiting) 1
-            (span-through HE BE D from fresh 0 3_124_999 Waiting Admitted (WaitsFor 0) admitting waiting),
-      )
+      let fresh = start-fresh A i hearOf floor-alike D in
+      let x = shown HE BE D fresh 0 3_124_999 Waiting Admitted (WaitsFor 0) admitting waiting in
+      omega (arith, x .length, f (x .span) 1 (x .through))

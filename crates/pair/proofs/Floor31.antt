@@ -21,8 +21,8 @@ use Rattle.pair.proofs.Messages.{IsCall, call-valid}
 use Rattle.pair.proofs.OnWay.{OnWay, sent-on, only}
 use Rattle.pair.proofs.Pairs.{Dropped, to-dropped}
 use Rattle.pair.proofs.Quiet.{out, grantAt, sync, opening, discovery, Shut, calling, quiet-opens, shut-ticks}
-use Rattle.pair.proofs.Reach.{Reach, by, next, span, span-length, span-through, span-ends}
-use Rattle.pair.proofs.Way.{start, start-fresh}
+use Rattle.pair.proofs.Reach.{Reach, by, next, shown}
+use Rattle.pair.proofs.Way.{start-fresh}
 
 module _ (A : Address) (i : isIndividual A ≡ true) (D : ℕ) where
   abbrev HE : End (List ℕ) (List ℕ)
@@ -78,10 +78,6 @@ module _ (A : Address) (i : isIndividual A ≡ true) (D : ℕ) where
 
   pub floor-31 : ¬ NoHalfOpen HE BE D watchdog wait
   floor-31 f =
-      let s = start A i spoiledHear spoiled-else D in
       let fresh = start-fresh A i spoiledHear spoiled-else D in
-      let way = to-dropped A i spoiledHear spoiled-else D in
-      let n = D + 62_500_000 in
-      f .box-drops (span HE BE D s fresh 32 n P Q R way stays) (omega (arith, span-length HE BE D s fresh 32 n P Q R way stays))
-      (span-through HE BE D s fresh 32 n P Q R way stays)
-      (tt, span-ends HE BE D s fresh 32 n P Q R way stays .box .state)
+      let x = shown HE BE D fresh 32 (D + 62_500_000) P Q R (to-dropped A i spoiledHear spoiled-else D) stays in
+      f .box-drops (x .span) (omega (arith, x .length)) (x .through) (tt, x .ends .box .state)

@@ -1,6 +1,6 @@
 -- The messages by which head and box become a pair: REGISTER ack, REGISTER_ACK 1, the GATE and the REPORT that follow; each has a frame.
 -- Assumes nothing.
-use Prim.Native.Nat.{ℕ, _/_, _%_, _^_, _<_}
+use Prim.Native.Nat.{_/_, _%_, _^_, _<_}
 use mathlib.Core.Path.{_≡_}
 use mathlib.Core.Bool.{true, _&&_, and-eq-true-iff}
 use native.Mathlib.Omega.{arith}
@@ -23,7 +23,7 @@ use Rattle.headlaws.specs.Runs.{run-sound, run-count}
 use Rattle.headlaws.specs.Window.{head-parts}
 use Rattle.headend.specs.End.{HeadState}
 use Rattle.headend.proofs.Ready.{Ready}
-use Rattle.pair.proofs.Quiet.{out, grantAt, sync, discovery, now}
+use Rattle.pair.proofs.Quiet.{out, grantAt, sync, discovery}
 
 -- the head's call for newcomers
 abbrev pub IsCall : Count → Message → Type 0

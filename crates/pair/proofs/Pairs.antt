@@ -5,7 +5,6 @@ use mathlib.Core.Path.{_≡_, refl, sym, subst}
 use mathlib.Core.Bool.{true}
 use mathlib.Core.List.{List, [], _∷_, _++_, map, List·Memᴰ, List·Memᴰ·head, List·Memᴰ·tail}
 use native.Mathlib.Omega.{arith}
-use Rattle.frame.specs.Layout.{encode}
 use Rattle.frame.specs.declared.Address.{Address}
 use Rattle.frame.specs.declared.Body.the-variants.{Report, RegisterAck}
 use Rattle.frame.specs.declared.Message.{Message}
@@ -16,18 +15,18 @@ use Rattle.floorbox.specs.declared.Answer as floor
 use Rattle.floorbox.specs.declared.FloorBox.{FloorBox}
 use Rattle.judging.specs.declared.Request.{Request}
 use Rattle.wire.specs.Carried.{carries-valid}
-use Rattle.pairlaw.specs.Run.{Answer, End, stamp, Moment, Event, head-call, head-hears, box-hears, after, Allowed, tally}
+use Rattle.pairlaw.specs.Run.{Answer, End, stamp, Moment, head-call, head-hears, box-hears}
 use Rattle.boxend.specs.End.{EndThat, BoxEnd}
 use Rattle.boxend.proofs.Exact as boxes
 use Rattle.boxend.proofs.Exact.{AskingFor}
-use Rattle.headend.specs.End.{asks, asked, heard, HeadEnd}
+use Rattle.headend.specs.End.{asks, asked, HeadEnd}
 use Rattle.pair.proofs.Admitted.{ack-admits}
 use Rattle.pair.proofs.Alike.{Alike, as-box}
 use Rattle.pair.proofs.Messages.{IsOffer, IsAccept, IsGate, IsReport, of-box-valid}
 use Rattle.pair.proofs.Offering.{Waits, Serves, admit, admits, accepts, drops}
 use Rattle.pair.proofs.OnWay.{OnWay, sent-on, stays-on}
 use Rattle.pair.proofs.Quiet.{out, sync, later, later-idle, Shut}
-use Rattle.pair.proofs.Reach.{Reach, one, next, Any}
+use Rattle.pair.proofs.Reach.{Reach, next, then, Any}
 use Rattle.pair.proofs.Way.{start, Asks, to-asks}
 
 -- both of two frames were handed out
@@ -48,9 +47,6 @@ module _ (A : Address) (i : isIndividual A ≡ true) (hears : FloorBox → Messa
   abbrev Way : M → ℕ → (M → Type 0) → Type 0
   Way = Reach HE BE D (Any HE BE D)
 
-  then : (m : M) (Q : M → Type 0) (e : Event HE BE) → Allowed HE BE D m e → Q (after HE BE m e) → Way m (tally HE BE e 0) Q
-  then m Q e a q = one HE BE D (Any HE BE D) m Q e a tt tt q
-
   -- a box that is registered, with a full watchdog
   abbrev Full : FloorBox → Type 0
   Full = boxes.RegisteredFor A 62_500_000
@@ -62,7 +58,7 @@ module _ (A : Address) (i : isIndividual A ≡ true) (hears : FloorBox → Messa
   offers : (m : M) → Asks A i hears same D m → Way m 0 Offered
   offers m q =
       let a = admits A i later (m .head) (q .0) in
-      then m Offered (head-call (asks (admit A i later (m .head)) out)) (omega arith, tt, tt) (a .0, q .1, a .1 (m .down))
+      then HE BE D m Offered (head-call (asks (admit A i later (m .head)) out)) (omega arith, tt, tt) (a .0, q .1, a .1 (m .down))
 
   -- the box hears that, and answers
   abbrev Met : M → Type 0
@@ -88,7 +84,7 @@ module _ (A : Address) (i : isIndividual A ≡ true) (hears : FloorBox → Messa
   meets m q =
       let w = q .2 in
       let a = subst (Answers m) (as-box A hears same (m .box) 0 (w .octets) (w .message) (w .carries) (rw (w .is .0))) (answers m w (q .1)) in
-      then m Met (box-hears 0 (record { frame = w .octets; age = 0 })) (w .among, omega arith) (q .0, a .0, a .1, a .2)
+      then HE BE D m Met (box-hears 0 (record { frame = w .octets; age = 0 })) (w .among, omega arith) (q .0, a .0, a .1, a .2)
 
   -- the head hears the answer
   abbrev pub Paired : M → Type 0
@@ -98,16 +94,13 @@ module _ (A : Address) (i : isIndividual A ≡ true) (hears : FloorBox → Messa
   pairs m q =
       let w = q .2 in
       let a = accepts A i later (m .head) (q .0) w in
-      then m Paired (head-hears (record { link = 1; output = out }) (record { frame = w .octets; age = 0 })) (w .among, omega arith)
+      then HE BE D m Paired (head-hears (record { link = 1; output = out }) (record { frame = w .octets; age = 0 })) (w .among, omega arith)
       (a .0, q .1, a .1 (m .down), q .3)
-
-  join : {m : M} (n k : ℕ) (Q R : M → Type 0) → Way m n Q → ((y : M) → Q y → Way y k R) → Way m (n + k) R
-  join = next HE BE D (Any HE BE D)
 
   pub to-pair : Way (start A i hears same D) 32 Paired
   to-pair =
-      join 32 0 (Asks A i hears same D) Paired (to-asks A i hears same D)
-      (λ x p. join 0 0 Offered Paired (offers x p) (λ y q. join 0 0 Met Paired (meets y q) pairs))
+      next HE BE D (Any HE BE D) 32 0 (Asks A i hears same D) Paired (to-asks A i hears same D)
+      (λ x p. next HE BE D (Any HE BE D) 0 0 Offered Paired (offers x p) (λ y q. next HE BE D (Any HE BE D) 0 0 Met Paired (meets y q) pairs))
 
   -- the head drops the link, and the frame that says so is lost
   abbrev pub Dropped : M → Type 0
@@ -115,11 +108,11 @@ module _ (A : Address) (i : isIndividual A ≡ true) (hears : FloorBox → Messa
 
   dropped : (m : M) → Paired m → Way m 0 Dropped
   dropped m q =
-      then m Dropped (head-call (asks (Request.Deregister 1) out)) (tt, tt, tt) (
+      then HE BE D m Dropped (head-call (asks (Request.Deregister 1) out)) (tt, tt, tt) (
         record { h = later; quiet = drops A i later (m .head) (q .0); shut = later-idle },
         q .1,
         stays-on (IsGate A) (asked (m .head) (Request.Deregister 1) out .sent) (q .2),
       )
 
   pub to-dropped : Way (start A i hears same D) 32 Dropped
-  to-dropped = join 32 0 Paired Dropped to-pair dropped
+  to-dropped = next HE BE D (Any HE BE D) 32 0 Paired Dropped to-pair dropped

@@ -75,34 +75,37 @@ module _ {Up Down : Type 0} (Head : End Up Down) (Box : End Down Up) (D : ℕ) w
     again I p step (suc n) m i =
         subst (λ (k : ℕ). Reach P m k (I 0)) (omega arith) (next 1 n (I n) (I 0) (step n m i) (again I p step n))
 
+  -- wherever P doesn't matter
   abbrev pub Any : Moment Head Box → Type 0
   Any m = Unit {0}
 
-  -- a run from a fresh start, and one that goes on from there, make a span
-  module _ (start : Moment Head Box) (fresh : Start Head Box start) (n k : ℕ) (P Q R : Moment Head Box → Type 0)
-      (way : Reach Any start n Q) (on : (m : Moment Head Box) → Q m → Reach P m k R) where
-    abbrev goes : Reach P (play Head Box start (way .events)) k R
-    goes = on (play Head Box start (way .events)) (way .ends)
+  pub then : (m : Moment Head Box) (Q : Moment Head Box → Type 0) (e : Event Head Box) → Allowed Head Box D m e → Q (after Head Box m e)
+      → Reach Any m (tally Head Box e 0) Q
+  then m Q e a q = one Any m Q e a tt tt q
 
+  -- a span of k ticks with P at every moment and R at the end
+  pub record Shown (k : ℕ) (P R : Moment Head Box → Type 0) : Type 0 where
     pub span : Span Head Box D
-    span =
-        record {
-          start = start;
-          fresh = fresh;
-          before = way .events;
-          events = goes .events;
-          lawful-before = way .lawful;
-          lawful = goes .lawful;
-        }
+    pub length : length-of Head Box span ≡ k
+    pub through : All-through Head Box span P
+    pub ends : R (last Head Box span)
 
-    pub span-length : length-of Head Box span ≡ k
-    unfolding span
-    span-length = goes .length
-
-    pub span-through : All-through Head Box span P
-    unfolding span
-    span-through = goes .through
-
-    pub span-ends : R (last Head Box span)
-    unfolding span
-    span-ends = goes .ends
+  -- a run from a fresh start, and one that goes on from there, show one
+  pub shown : {start : Moment Head Box} → Start Head Box start → (n k : ℕ) (P Q R : Moment Head Box → Type 0) → Reach Any start n Q
+      → ((m : Moment Head Box) → Q m → Reach P m k R) → Shown k P R
+  shown {start} fresh n k P Q R way on =
+      let goes = on (play Head Box start (way .events)) (way .ends) in
+      record {
+        span =
+            record {
+              start = start;
+              fresh = fresh;
+              before = way .events;
+              events = goes .events;
+              lawful-before = way .lawful;
+              lawful = goes .lawful;
+            };
+        length = goes .length;
+        through = goes .through;
+        ends = goes .ends;
+      }

@@ -1,6 +1,6 @@
 -- The way from a fresh start to a box that asks, 32 ticks later, at any individual address A: the head calls for newcomers, the box hears it.
 -- Assumes nothing.
-use Prim.Native.Nat.{ℕ, suc, _+_}
+use Prim.Native.Nat.{ℕ, suc}
 use mathlib.Core.Path.{_≡_, refl, ap, subst, _∙_}
 use mathlib.Core.Bool.{true, false}
 use mathlib.Core.List.{List, []}
@@ -18,7 +18,7 @@ use Rattle.floorbox.specs.declared.FloorBox.{FloorBox}
 use Rattle.head.specs.Head.{begun}
 use Rattle.head.specs.declared.Head.{Head}
 use Rattle.pairlaw.specs.Run as run
-use Rattle.pairlaw.specs.Run.{End, Moment, Event, head-call, box-call, box-hears, both-tick, after, Allowed, tally, Start}
+use Rattle.pairlaw.specs.Run.{End, Moment, head-call, box-call, box-hears, both-tick, Start}
 use Rattle.boxend.specs.End.{register, stateOf, EndThat}
 use Rattle.boxend.proofs.Activated.{activate-leaves}
 use Rattle.boxend.proofs.Exact.{AskingFor, tick-done}
@@ -30,7 +30,7 @@ use Rattle.pair.proofs.Asking.{At, begins, called, opened, opened-is, a
 use Rattle.pair.proofs.Messages.{IsCall, call-valid}
 use Rattle.pair.proofs.OnWay.{OnWay, sent-on, only}
 use Rattle.pair.proofs.Quiet.{out, H, begunHead, begun-fresh, ticksOf, opening, openedAt, discovery, now, later, later-is, Free, begun-free, free-ticks, free-opens}
-use Rattle.pair.proofs.Reach.{Reach, one, so, next, again, Any}
+use Rattle.pair.proofs.Reach.{Reach, then, so, next, again, Any}
 
 module _ (A : Address) (i : isIndividual A ≡ true) (hears : FloorBox → Message → ℕ → Answer) (same : Alike hears) (D : ℕ) where
   abbrev HE : End (List ℕ) (List ℕ)
@@ -45,12 +45,6 @@ module _ (A : Address) (i : isIndividual A ≡ true) (hears : FloorBox → Messa
   abbrev Way : M → ℕ → (M → Type 0) → Type 0
   Way = Reach HE BE D (Any HE BE D)
 
-  then : (m : M) (Q : M → Type 0) (e : Event HE BE) → Allowed HE BE D m e → Q (after HE BE m e) → Way m (tally HE BE e 0) Q
-  then m Q e a q = one HE BE D (Any HE BE D) m Q e a tt tt q
-
-  join : {m : M} (n k : ℕ) (Q R : M → Type 0) → Way m n Q → ((y : M) → Q y → Way y k R) → Way m (n + k) R
-  join = next HE BE D (Any HE BE D)
-
   abbrev pub start : M
   start = record { head = begunHead; box = freshOf A .next; down = []; up = [] }
 
@@ -62,7 +56,7 @@ module _ (A : Address) (i : isIndividual A ≡ true) (hears : FloorBox → Messa
   Begun m = Free A (begun H) (m .head) × At A begins (m .box)
 
   begin : Way start 0 Begun
-  begin = then start Begun (box-call register) tt (begun-free A, at-begins A (freshOf A .next) (at-fresh A i .1))
+  begin = then HE BE D start Begun (box-call register) tt (begun-free A, at-begins A (freshOf A .next) (at-fresh A i .1))
 
   -- the head calls for newcomers, at its first count
   abbrev First : Message → Type 0
@@ -76,7 +70,7 @@ module _ (A : Address) (i : isIndividual A ≡ true) (hears : FloorBox → Messa
       let s = m .head in
       let f = free-opens A (begun H) s refl (omega arith) (q .0) in
       let v = call-valid now (omega arith) s (q .0 .quiet .ready) in
-      then m Called (head-call (asks (opening now) out)) (omega arith, tt, tt)
+      then HE BE D m Called (head-call (asks (opening now) out)) (omega arith, tt, tt)
       (f .0, q .1, sent-on First (discovery now (s .head)) v ((refl, refl), ap (λ (h : Head). h .count) (q .0 .quiet .head)) (asked s (opening now) out .sent) (m .down) (only (f .1)))
 
   -- the box hears it
@@ -90,7 +84,7 @@ module _ (A : Address) (i : isIndividual A ≡ true) (hears : FloorBox → Messa
       let off : isRegistered (stateOf b) ≡ false =
       ap (λ (p : Processes). isRegistered (p .registration .state)) (q .1 .processes)
       ∙ ap (λ (r : Registration). isRegistered (r .state)) (activate-leaves (withRegistration fresh (registering (fresh .registration))) .1) in
-      then m Heeds (box-hears 0 (record { frame = w .octets; age = 0 })) (w .among, omega arith) (
+      then HE BE D m Heeds (box-hears 0 (record { frame = w .octets; age = 0 })) (w .among, omega arith) (
         q .0,
         subst (λ (x : run.Answer FloorBox (List ℕ)). At A called (x .next))
         (as-box A hears same b 0 (w .octets) (w .message) (w .carries) (rw (w .is .0 .0, off)))
@@ -112,7 +106,7 @@ module _ (A : Address) (i : isIndividual A ≡ true) (hears : FloorBox → Messa
   turns : (k : ℕ) (m : M) → Turns (suc k) m → Way m 1 (Turns k)
   unfolding ticksOf asking.ticksOf
   turns k m t =
-      then m (Turns k) (both-tick out tt) (ready-tick (t .head .quiet .ready) .reply, tick-done A (m .box) (t .box .ok))
+      then HE BE D m (Turns k) (both-tick out tt) (ready-tick (t .head .quiet .ready) .reply, tick-done A (m .box) (t .box .ok))
       (record {
         h = _;
         p = _;
@@ -135,4 +129,4 @@ module _ (A : Address) (i : isIndividual A ≡ true) (hears : FloorBox → Messa
       turned
 
   pub to-asks : Way start 32 Asks
-  to-asks = join 0 32 Begun Asks begin (λ x p. join 0 32 Called Asks (calls x p) (λ y q. join 0 32 Heeds Asks (heeds y q) turning))
+  to-asks = next HE BE D (Any HE BE D) 0 32 Begun Asks begin (λ x p. next HE BE D (Any HE BE D) 0 32 Called Asks (calls x p) (λ y q. next HE BE D (Any HE BE D) 0 32 Heeds Asks (heeds y q) turning))
