@@ -48,8 +48,7 @@ module _ (A : Address) (b : FloorBox) (n random : ℕ) (os : List ℕ) (m : Mess
       let own = eq-eqb (m .destination .0) (b .address .0) (rw (w .ok .address) d) in
       let a = hear-accepted b (w .ok .holds) m random v (rw g) (rw own) in
       let r = next-registration (hear m random) b a ∙ ap (λ (s : Step). s .next .registration) admits in
-      let f = call-frames (hear m random) b (typed-of m v) (w .ok .count) (ap (λ (x : Answer). x .reply) a) .frames in
-      (
+      let f = call-frames (hear m random) b (typed-of m v) (w .ok .count) (ap (λ (x : Answer). x .reply) a) .frames in (
         record {
           ok = box-laws A .of-hear b random os (w .ok) .ok;
           state = rw e (ap (λ (t : Registration). t .state) r);

@@ -9,26 +9,22 @@ use mathlib.Core.Logic.{_≢_}
 use native.Mathlib.Omega.{arith}
 use borrow.Author.Tests.{eqb-true, eq-eqb, ne-eqb}
 use lib.Dec.{eqb, ltb}
-use Rattle.clock.specs.Counts.{distance, isPast, reach, nextOf, nearer}
+use Rattle.clock.specs.Counts.{distance, reach, nextOf}
 use Rattle.clock.specs.Numbers.{startInRange}
-use Rattle.clock.specs.Timers.{runs, off, ticked}
+use Rattle.clock.specs.Timers.{ticked}
 use Rattle.frame.specs.declared.Address.{Address}
 use Rattle.frame.specs.declared.Body.the-variants.{Discovery}
 use Rattle.frame.specs.declared.Message.{Message}
 use Rattle.range.specs.Fits.{fitsAddress, isIndividual}
 use Rattle.grants.specs.Listed.{chooseOf}
-use Rattle.grants.specs.Sound.{soundOf as listSound}
-use Rattle.light.specs.Light.{laserOnFor, restOf, randomly}
-use Rattle.light.specs.Sound.{waitFits, served}
+use Rattle.light.specs.Light.{laserOnFor, randomly}
 use Rattle.light.specs.Tick.{tickOf as lightTick}
 use Rattle.registration.specs.Registration.{registering}
-use Rattle.registration.specs.Sound.{soundOf as registrationSound}
-use Rattle.registration.specs.Tick.{tickWait, tickReport, tickWatchdog}
+use Rattle.registration.specs.Tick.{tickWait}
 use Rattle.registration.specs.declared.State.the-variants.{RegisterReq}
 use Rattle.processes.specs.Parts.{fresh, withCount, withRegistration}
-use Rattle.processes.specs.Sound.{soundOf as processesSound}
 use Rattle.processes.specs.declared.Processes.{Processes}
-use Rattle.activation.specs.Activation.{lightUp, begin, activate}
+use Rattle.activation.specs.Activation.{activate}
 use Rattle.ticking.specs.Tick.{timed, transmitted, tickOf as processesTick}
 use Rattle.hearing.specs.Discovery.{randomFor, discover}
 use Rattle.floorbox.specs.Answer.{accepted}
@@ -69,7 +65,7 @@ unfolding opened
 opened-is = refl
 
 opens : (opened .registration .state ≡ RegisterReq) × (opened .registration .wait .left ≡ 3125000)
-unfolding opened ticksOf randomFor discover timed transmitted processesTick lightUp begin activate processesSound tickWait tickReport tickWatchdog registrationSound lightTick waitFits served laserOnFor restOf randomly listSound chooseOf runs off ticked startInRange distance isPast reach nextOf nearer
+unfolding opened ticksOf randomFor discover timed transmitted processesTick activate tickWait lightTick laserOnFor randomly chooseOf ticked startInRange distance reach nextOf
 opens = (refl, refl)
 
 left-by : (c : Call) (b : FloorBox) → answer c b ≡ accepted b (drift c b) (step c b) → answer c b .next .processes ≡ activate (step c b .next)

@@ -32,8 +32,8 @@ use Rattle.pair.specs.Exact.{HeadDrops}
 use Rattle.pair.proofs.Alike.{floor-alike}
 use Rattle.pair.proofs.Messages.{IsReport}
 use Rattle.pair.proofs.OnWay.{OnWay, stays-on, ticks-on}
+use Rattle.pair.proofs.OneLink.{out}
 use Rattle.pair.proofs.Pairs.{Paired, to-pair}
-use Rattle.pair.proofs.Quiet.{out}
 use Rattle.pair.proofs.Reach.{Reach, by, one, next, again, Any, then, shown}
 use Rattle.pair.proofs.Way.{start-fresh}
 
@@ -99,7 +99,8 @@ module _ (A : Address) (i : isIndividual A ≡ true) (D : ℕ) where
       (record { full = full; age = suc (e .age); late = omega (arith, e .late); report = g }))
 
   -- the client of the box deregisters it
-  leaves : (b : FloorBox) (n : ℕ) → boxes.RegisteredFor A n b → Ok A (asked deregister b .next) × (¬ (stateOf (asked deregister b .next) ≡ Registered))
+  leaves : (b : FloorBox) (n : ℕ) → boxes.RegisteredFor A n b
+      → Ok A (asked deregister b .next) × (¬ (stateOf (asked deregister b .next) ≡ Registered))
   unfolding deregisterOf soundOf
   leaves b n w =
       let o = w .ok in

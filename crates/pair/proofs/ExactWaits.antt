@@ -21,7 +21,8 @@ use Rattle.pair.specs.Exact.{BoxWaits, HeadWaits}
 use Rattle.pair.proofs.Alike.{floor-alike}
 use Rattle.pair.proofs.Asking.{at-fresh}
 use Rattle.pair.proofs.Offering.{Waits, admit, admits}
-use Rattle.pair.proofs.Quiet.{out, H, begunHead, begun-free}
+use Rattle.pair.proofs.OneLink.{out, H, begunHead}
+use Rattle.pair.proofs.Quiet.{begun-free}
 use Rattle.pair.proofs.Reach.{Reach, one, again, Any, then, shown}
 use Rattle.pair.proofs.Way.{start, start-fresh, Asks, to-asks}
 

@@ -19,8 +19,9 @@ use Rattle.headend.specs.End.{asks, HeadEnd}
 use Rattle.pair.proofs.Lingers.{Silent, Lingers, Echoes, allowed, ticked, lingers, echoes}
 use Rattle.pair.proofs.Messages.{IsCall, call-valid}
 use Rattle.pair.proofs.OnWay.{OnWay, sent-on, only}
+use Rattle.pair.proofs.OneLink.{out}
 use Rattle.pair.proofs.Pairs.{Dropped, to-dropped}
-use Rattle.pair.proofs.Quiet.{out, grantAt, sync, opening, discovery, Shut, calling, quiet-opens, shut-ticks}
+use Rattle.pair.proofs.Quiet.{grantAt, sync, opening, discovery, Shut, calling, quiet-opens, shut-ticks}
 use Rattle.pair.proofs.Reach.{Reach, by, next, shown}
 use Rattle.pair.proofs.Way.{start-fresh}
 
@@ -52,7 +53,8 @@ module _ (A : Address) (i : isIndividual A ≡ true) (D : ℕ) where
       let w = c .0 in
       let g = c .1 .1 in
       let hearing : Event HE BE = box-hears 0 (record { frame = g .octets; age = 0 }) in
-      let b = discovery-restarts A (m .box) 62_499_999 0 (g .octets) (g .message) (grantAt (c .1 .0)) sync (g .carries) (g .is .0) (g .is .1) (w .box) in
+      let grant = grantAt (c .1 .0) in
+      let b = discovery-restarts A (m .box) 62_499_999 0 (g .octets) (g .message) grant sync (g .carries) (g .is .0) (g .is .1) (w .box) in
       by HE BE D P 62_499_999 R hearing (g .among, omega arith) (w .none)
       (lingers A i spoiledHear spoiled-else D 62_499_999 (after HE BE m hearing) (record { ready = w .ready; none = w .none; box = b }))
 

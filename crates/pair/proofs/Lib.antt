@@ -2,6 +2,7 @@ pub mod Demand
 pub mod Ticks
 pub mod Reach
 pub mod OnWay
+pub mod OneLink
 pub mod Quiet
 pub mod Messages
 pub mod Offering

@@ -21,8 +21,9 @@ use Rattle.headend.proofs.Ready.{Ready}
 use Rattle.pair.proofs.Alike.{Alike, as-box}
 use Rattle.pair.proofs.Messages.{IsGate}
 use Rattle.pair.proofs.OnWay.{OnWay, ticks-on}
+use Rattle.pair.proofs.OneLink.{out}
 use Rattle.pair.proofs.Pairs.{Dropped}
-use Rattle.pair.proofs.Quiet.{out, Shut, shut-ticks}
+use Rattle.pair.proofs.Quiet.{Shut, shut-ticks}
 use Rattle.pair.proofs.Reach.{Reach, by, one, again}
 
 module _ (A : Address) (i : isIndividual A ≡ true) (hears : FloorBox → Message → ℕ → floor.Answer) (same : Alike hears) (D : ℕ) where

@@ -23,7 +23,8 @@ use Rattle.headlaws.specs.Runs.{run-sound, run-count}
 use Rattle.headlaws.specs.Window.{head-parts}
 use Rattle.headend.specs.End.{HeadState}
 use Rattle.headend.proofs.Ready.{Ready}
-use Rattle.pair.proofs.Quiet.{out, grantAt, sync, discovery}
+use Rattle.pair.proofs.OneLink.{out}
+use Rattle.pair.proofs.Quiet.{grantAt, sync, discovery}
 
 -- the head's call for newcomers
 abbrev pub IsCall : Count → Message → Type 0

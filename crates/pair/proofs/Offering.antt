@@ -38,7 +38,8 @@ use Rattle.headend.proofs.Heard.{group-for, ack-registers}
 use Rattle.headend.proofs.Ready.{Ready}
 use Rattle.pair.proofs.Messages.{IsOffer, IsAccept, IsGate, to-box-valid}
 use Rattle.pair.proofs.OnWay.{OnWay, sent-on, only}
-use Rattle.pair.proofs.Quiet.{out, head-stays, one-link, sync, Quiet, Free}
+use Rattle.pair.proofs.OneLink.{out, head-stays, one-link}
+use Rattle.pair.proofs.Quiet.{sync, Quiet, Free}
 
 -- REGISTER_ACK leaves the head itself
 confirmed-head : (h : Head) (l : Link) (link : ℕ) (trip : Quanta) → confirmed RegisterAckFlag.Ack h l link trip .head ≡ h
@@ -79,8 +80,8 @@ module _ (A : Address) where
             link = subst (λ (k : ℕ). WaitingFor A 3_125_000 (linkAt (x .next) k)) first (a .1);
           },
           λ l.
-          sent-on (IsOffer A) (offer 1) (to-box-valid A i (Register 1 RegisterFlag.Ack sync 0) (omega arith) s y) (refl, refl) (x .sent) l
-          (only (a .2 ∙ ap (λ (k : ℕ). encode (offer k) ∷ []) first)),
+              sent-on (IsOffer A) (offer 1) (to-box-valid A i (Register 1 RegisterFlag.Ack sync 0) (omega arith) s y) (refl, refl) (x .sent) l
+              (only (a .2 ∙ ap (λ (k : ℕ). encode (offer k) ∷ []) first)),
         )
 
     -- a frame that carries REGISTER_ACK 1 on the link
@@ -104,8 +105,8 @@ module _ (A : Address) where
           let a = ack-registers y A 1 (o .octets) (o .message) (o .carries) (o .is .1) meant 1 sync 3_125_000 (o .is .0) (w .link) in (
             record { ready = a .0 .0 .ready; head = stays ∙ w .head; link = a .0 .1 },
             λ l.
-            sent-on (IsGate A) (messageOf (from (s .head)) A (Gate None)) (to-box-valid A i (Gate None) tt s y) (refl, refl) (confirms .sent) l
-            (only (a .1)),
+                sent-on (IsGate A) (messageOf (from (s .head)) A (Gate None)) (to-box-valid A i (Gate None) tt s y) (refl, refl) (confirms .sent) l
+                (only (a .1)),
           )
 
     -- the client of the head drops the link

@@ -25,7 +25,8 @@ use Rattle.pair.proofs.Alike.{Alike, as-box}
 use Rattle.pair.proofs.Messages.{IsOffer, IsAccept, IsGate, IsReport, of-box-valid}
 use Rattle.pair.proofs.Offering.{Waits, Serves, admit, admits, accepts, drops}
 use Rattle.pair.proofs.OnWay.{OnWay, sent-on, stays-on}
-use Rattle.pair.proofs.Quiet.{out, sync, later, later-idle, Shut}
+use Rattle.pair.proofs.OneLink.{out}
+use Rattle.pair.proofs.Quiet.{sync, later, later-idle, Shut}
 use Rattle.pair.proofs.Reach.{Reach, next, then, Any}
 use Rattle.pair.proofs.Way.{start, Asks, to-asks}
 
@@ -100,7 +101,9 @@ module _ (A : Address) (i : isIndividual A ≡ true) (hears : FloorBox → Messa
   pub to-pair : Way (start A i hears same D) 32 Paired
   to-pair =
       next HE BE D (Any HE BE D) 32 0 (Asks A i hears same D) Paired (to-asks A i hears same D)
-      (λ x p. next HE BE D (Any HE BE D) 0 0 Offered Paired (offers x p) (λ y q. next HE BE D (Any HE BE D) 0 0 Met Paired (meets y q) pairs))
+      (λ x p.
+      next HE BE D (Any HE BE D) 0 0 Offered Paired (offers x p)
+      (λ y q. next HE BE D (Any HE BE D) 0 0 Met Paired (meets y q) pairs))
 
   -- the head drops the link, and the frame that says so is lost
   abbrev pub Dropped : M → Type 0

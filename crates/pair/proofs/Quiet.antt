@@ -1,13 +1,11 @@
--- A head of one link, lent room for one frame, that holds no link for A: a fresh one, and what its ticks and its calls for newcomers leave.
+-- A head of one link that holds none for A: a fresh one, and what its ticks and its calls for newcomers leave.
 -- Assumes nothing.
 use Prim.Native.Nat.{ℕ, zero, suc, _+_, _-_, _^_, _<_}
 use mathlib.Core.Path.{_≡_, refl, sym, ap, subst, _∙_}
-use mathlib.Core.Bool.{true, false, false≢true, and-eq-true-iff}
+use mathlib.Core.Bool.{true, false, false≢true}
 use mathlib.Core.List.{List, [], _∷_}
 use native.Mathlib.Omega.{arith}
-use borrow.Author.Tests.{leb-true}
-use lib.Dec.{leb}
-use lib.ListN.{length, replicate}
+use lib.ListN.{length}
 use Rattle.clock.specs.Counts.{distance, reach, nextOf}
 use Rattle.clock.specs.Numbers.{startInRange}
 use Rattle.clock.specs.Timers.{ticked}
@@ -18,87 +16,31 @@ use Rattle.frame.specs.declared.Address.{Address}
 use Rattle.frame.specs.declared.Body.the-variants.{Discovery}
 use Rattle.frame.specs.declared.Grant.{Grant}
 use Rattle.frame.specs.declared.Message.{Message}
-use Rattle.lent.specs.Folds.{places}
 use Rattle.links.specs.Link.{idle, isHeld}
 use Rattle.links.specs.declared.Link.{Link}
 use Rattle.links.specs.declared.State.{State}
-use Rattle.survey.specs.Facts.{isFew}
 use Rattle.head.specs.Head.{begun, withWindow, tickOf}
 use Rattle.head.specs.Window.{fits, isIdle, opened, tickedWindow}
 use Rattle.head.specs.declared.Window.{Window}
 use Rattle.head.specs.declared.Window.the-variants.{Idle, Before, Inside}
 use Rattle.head.specs.declared.Head.{Head}
 use Rattle.table.specs.Output.{messageOf}
-use Rattle.plans.specs.declared.Plan.{Plan}
 use Rattle.requests.specs.Client.{fitsLengths, mayOpen}
 use Rattle.judging.specs.declared.Request.{Request}
-use Rattle.serving.specs.Fresh.{Freshly}
-use Rattle.serving.specs.Serve.{doneOf, planOf, serveOf}
-use Rattle.headlaws.specs.Calls.{planned, known, Outcome, unsound, short, refuses, accepts, outcome}
 use Rattle.headlaws.specs.Does.{from}
-use Rattle.headlaws.specs.Events.{table-parts}
-use Rattle.headlaws.specs.Fresh.{fresh-done}
-use Rattle.headlaws.specs.Runs.{run-sound}
 use Rattle.headlaws.specs.Ticks.{tick-head}
 use Rattle.pairlaw.specs.Run.{Answer, Holds}
-use Rattle.headend.specs.End.{HeadState, linkAt, asked, Fresh, HeadEnd}
+use Rattle.headend.specs.End.{HeadState, linkAt, asked, HeadEnd}
 use Rattle.headend.proofs.Asked.{open-sends}
 use Rattle.headend.proofs.Exact.{ready-tick, idle-ticks, none-ticks}
 use Rattle.headend.proofs.Fresh.{fresh-run, fresh-idle}
 use Rattle.headend.proofs.Ready.{Ready, Taken, ready-done}
-
--- room for one frame
-pub out : List ℕ
-out = replicate 60 0
-
-room : length out ≡ 60
-unfolding out
-room = refl
-
--- a head of one link
-abbrev pub H : Address
-H = record { 0 = 0x020000000001 }
-
-abbrev pub begunHead : HeadState
-begunHead = record { head = begun H; table = idle ∷ [] }
-
-pub begun-fresh : Fresh begunHead
-unfolding places isFew
-begun-fresh =
-    let made = fresh-done H (idle ∷ []) refl refl in (
-      H,
-      idle ∷ [],
-      ap (λ (f : Freshly). f .answer .reply) made,
-      sym (ap (λ (f : Freshly). record { head = f .answer .next; table = f .table }) made),
-    )
-
--- a call that is neither an opening nor a tick leaves the head itself, its count and its window, done or refused
-module _ (s : HeadState) (r : Request) where
-  planned-stays : (room : ℕ) (p : Plan) → Outcome (s .head) (s .table) r room p → planned r (s .head) (known (s .table) r) .head ≡ s .head
-      → p .head ≡ s .head
-  planned-stays room p (unsound f e) q = ap (λ (x : Plan). x .head) e
-  planned-stays room p (short f m e) q = ap (λ (x : Plan). x .head) e
-  planned-stays room p (refuses f m x a b c e) q = ap (λ (x : Plan). x .head) e
-  planned-stays room p (accepts f m t e) q = ap (λ (x : Plan). x .head) e ∙ q
-
-  pub head-stays : planned r (s .head) (known (s .table) r) .head ≡ s .head → asked s r out .next .head ≡ s .head
-  unfolding serveOf doneOf
-  head-stays =
-      planned-stays (length out) (planOf (s .head) (s .table) r (length out)) (outcome (s .head) (s .table) r (length out))
+use Rattle.pair.proofs.OneLink.{out, room, H, begunHead, begun-fresh}
 
 -- so many ticks of it
 unfoldable pub ticksOf : ℕ → Head → Head
 ticksOf zero h = h
 ticksOf (suc k) h = ticksOf k (tickOf h)
-
--- there is one link, and no more
-pub one-link : (s : HeadState) → Ready out s → length (s .table) ≡ 1
-unfolding isFew
-one-link s y =
-    let n = length (s .table) in
-    let few = table-parts (s .table) (run-sound (y .ok) .table) .0 in
-    let least = leb-true 1 n (and-eq-true-iff (leb 1 n) (leb n 64) .0 few .0) in
-    omega (arith, least, y .room, room)
 
 -- the call for newcomers: a grant from this count on that just serves, so that there is no random wait, and a window of one tick
 abbrev pub grantAt : Count → Grant

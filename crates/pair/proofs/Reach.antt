@@ -36,7 +36,8 @@ module _ {Up Down : Type 0} (Head : End Up Down) (Box : End Down Up) (D : ℕ) w
     one m Q e a p o q = by 0 Q e a p (here Q o q)
 
     -- and what follows from what holds at its end
-    pub so : {m : Moment Head Box} {n : ℕ} (Q R : Moment Head Box → Type 0) → Reach P m n Q → ((y : Moment Head Box) → Q y → R y) → Reach P m n R
+    pub so : {m : Moment Head Box} {n : ℕ} (Q R : Moment Head Box → Type 0) → Reach P m n Q → ((y : Moment Head Box) → Q y → R y)
+        → Reach P m n R
     so {m} {n} Q R r f =
         record {
           events = r .events;

@@ -77,6 +77,6 @@ module _ (A : Address) (D : ℕ) where
       let begins : Fine (x .start) = (head-laws A .fresh-ok (x .start .head) (x .fresh .0), box-laws A .fresh-ok (x .start .box) (x .fresh .1)) in
       let starts = stays-fine (x .start) (x .before) begins (x .lawful-before) in
       let ends = stays-fine (first HE BE x) (x .events) starts (x .lawful) in
-      let same : length (y .head .table) ≡ length (x .start .head .table) = links-stay (first HE BE x) (x .events) ∙ links-stay (x .start) (x .before) in
+      let same = links-stay (first HE BE x) (x .events) ∙ links-stay (x .start) (x .before) in
       let enough : 60 * length (y .head .table) ≤ length out = rw same room in
       (ready-tick (record { ok = ends .0; room = enough }) .reply, tick-done A (y .box) (ends .1))

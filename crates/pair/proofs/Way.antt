@@ -29,7 +29,8 @@ use Rattle.pair.proofs.Asking as asking
 use Rattle.pair.proofs.Asking.{At, begins, called, opened, opened-is, at-fresh, at-begins, at-called, at-ticked}
 use Rattle.pair.proofs.Messages.{IsCall, call-valid}
 use Rattle.pair.proofs.OnWay.{OnWay, sent-on, only}
-use Rattle.pair.proofs.Quiet.{out, H, begunHead, begun-fresh, ticksOf, opening, openedAt, discovery, now, later, later-is, Free, begun-free, free-ticks, free-opens}
+use Rattle.pair.proofs.OneLink.{out, H, begunHead, begun-fresh}
+use Rattle.pair.proofs.Quiet.{ticksOf, opening, openedAt, discovery, now, later, later-is, Free, begun-free, free-ticks, free-opens}
 use Rattle.pair.proofs.Reach.{Reach, then, so, next, again, Any}
 
 module _ (A : Address) (i : isIndividual A ≡ true) (hears : FloorBox → Message → ℕ → Answer) (same : Alike hears) (D : ℕ) where
@@ -70,8 +71,9 @@ module _ (A : Address) (i : isIndividual A ≡ true) (hears : FloorBox → Messa
       let s = m .head in
       let f = free-opens A (begun H) s refl (omega arith) (q .0) in
       let v = call-valid now (omega arith) s (q .0 .quiet .ready) in
+      let first = ap (λ (h : Head). h .count) (q .0 .quiet .head) in
       then HE BE D m Called (head-call (asks (opening now) out)) (omega arith, tt, tt)
-      (f .0, q .1, sent-on First (discovery now (s .head)) v ((refl, refl), ap (λ (h : Head). h .count) (q .0 .quiet .head)) (asked s (opening now) out .sent) (m .down) (only (f .1)))
+      (f .0, q .1, sent-on First (discovery now (s .head)) v ((refl, refl), first) (asked s (opening now) out .sent) (m .down) (only (f .1)))
 
   -- the box hears it
   abbrev Heeds : M → Type 0
@@ -87,8 +89,8 @@ module _ (A : Address) (i : isIndividual A ≡ true) (hears : FloorBox → Messa
       then HE BE D m Heeds (box-hears 0 (record { frame = w .octets; age = 0 })) (w .among, omega arith) (
         q .0,
         subst (λ (x : run.Answer FloorBox (List ℕ)). At A called (x .next))
-        (as-box A hears same b 0 (w .octets) (w .message) (w .carries) (rw (w .is .0 .0, off)))
-        (at-called A b (w .octets) (w .message) (w .carries) (w .is .0 .0) (w .is .0 .1) (w .is .1) (q .1)),
+            (as-box A hears same b 0 (w .octets) (w .message) (w .carries) (rw (w .is .0 .0, off)))
+            (at-called A b (w .octets) (w .message) (w .carries) (w .is .0 .0) (w .is .0 .1) (w .is .1) (q .1)),
       )
 
   -- and asks, 32 ticks later
@@ -118,8 +120,10 @@ module _ (A : Address) (i : isIndividual A ≡ true) (hears : FloorBox → Messa
 
   turned : (m : M) → Turns 0 m → Asks m
   unfolding ticksOf asking.ticksOf
-  turned m t =
-      (subst (λ (h : Head). Free A h (m .head)) (t .head-ends) (t .head), asking.asks A (m .box) (subst (λ (p : Processes). At A p (m .box)) (t .box-ends) (t .box)))
+  turned m t = (
+    subst (λ (h : Head). Free A h (m .head)) (t .head-ends) (t .head),
+    asking.asks A (m .box) (subst (λ (p : Processes). At A p (m .box)) (t .box-ends) (t .box)),
+  )
 
   turning : (m : M) → Heeds m → Way m 32 Asks
   turning m q =
@@ -129,4 +133,8 @@ module _ (A : Address) (i : isIndividual A ≡ true) (hears : FloorBox → Messa
       turned
 
   pub to-asks : Way start 32 Asks
-  to-asks = next HE BE D (Any HE BE D) 0 32 Begun Asks begin (λ x p. next HE BE D (Any HE BE D) 0 32 Called Asks (calls x p) (λ y q. next HE BE D (Any HE BE D) 0 32 Heeds Asks (heeds y q) turning))
+  to-asks =
+      next HE BE D (Any HE BE D) 0 32 Begun Asks begin
+      (λ x p.
+      next HE BE D (Any HE BE D) 0 32 Called Asks (calls x p)
+      (λ y q. next HE BE D (Any HE BE D) 0 32 Heeds Asks (heeds y q) turning))
