@@ -1,5 +1,5 @@
--- The night on floor 31: of a box whose watchdog a discovery GATE restarts demand 3 is false, at every address and for every D.
--- The head has dropped the box, and its farewell got lost. It goes on calling for newcomers; the box takes the call as proof that all is well.
+-- The night on floor 31: the head has dropped the box, and its farewell got lost. It goes on calling for newcomers, and the box takes the call
+-- as proof that all is well.
 -- Assumes nothing.
 use Prim.Native.Nat.{ℕ, _+_, _^_, _<_}
 use mathlib.Core.Path.{_≡_, refl, subst}
@@ -16,6 +16,7 @@ use Rattle.pairlaw.specs.Run.{End, Moment, Event, head-call, box-hears, both-ti
 use Rattle.boxend.specs.Spoiled.{spoiledHear, SpoiledEnd}
 use Rattle.boxend.proofs.Spoiled.{spoiled-else, discovery-restarts}
 use Rattle.headend.specs.End.{asks, HeadEnd}
+use Rattle.pair.specs.Floor31.{Floor31}
 use Rattle.pair.proofs.Lingers.{Silent, Lingers, Echoes, allowed, ticked, lingers, echoes}
 use Rattle.pair.proofs.Messages.{IsCall, call-valid}
 use Rattle.pair.proofs.OnWay.{OnWay, sent-on, only}
@@ -78,8 +79,12 @@ module _ (A : Address) (i : isIndividual A ≡ true) (D : ℕ) where
       (calls (after HE BE y (both-tick out tt)) (ticked A i spoiledHear spoiled-else D 62_499_998 y (e .full))
       (shut-ticks A (y .head) (e .head))))
 
-  pub floor-31 : ¬ NoHalfOpen HE BE D watchdog wait
-  floor-31 f =
+  lasts : ¬ NoHalfOpen HE BE D watchdog wait
+  lasts f =
       let fresh = start-fresh A i spoiledHear spoiled-else D in
       let x = shown HE BE D fresh 32 (D + 62_500_000) P Q R (to-dropped A i spoiledHear spoiled-else D) stays in
       f .box-drops (x .span) (omega (arith, x .length)) (x .through) (tt, x .ends .box .state)
+
+pub floor-31 : Floor31
+unfolding Floor31
+floor-31 A i D = lasts A i D

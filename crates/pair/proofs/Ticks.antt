@@ -1,5 +1,4 @@
--- "With no tick refused" asks nothing of head and box: at the end of every run from a fresh start the next tick of both is done, if the
--- head is lent sixty octets for each of its links; their number stays.
+-- No tick is refused that lends the head sixty octets a link: what runs reach takes it, and the number of links stays.
 -- Assumes nothing.
 use Prim.Native.Nat.{ℕ, _*_, _≤_}
 use mathlib.Core.Path.{_≡_, refl, _∙_}
@@ -23,6 +22,7 @@ use Rattle.headend.specs.End.{HeadState, HeadCall, asks, hears, heard, callOf, 
 use Rattle.headend.proofs.Exact.{ready-tick}
 use Rattle.headend.proofs.Head as head
 use Rattle.headend.proofs.Head.{head-laws}
+use Rattle.pair.specs.Ticks.{NoTickRefused}
 
 module _ (A : Address) (D : ℕ) where
   abbrev HE : End (List ℕ) (List ℕ)
@@ -69,8 +69,7 @@ module _ (A : Address) (D : ℕ) where
   links-stay m [] = refl
   links-stay m (e ∷ es) = links-stay (after HE BE m e) es ∙ event-stays m e
 
-  -- at the end of every span, and so at every moment of every run: each is the end of one
-  pub tick-allowed : (x : Span HE BE D) (out : List ℕ) → 60 * length (x .start .head .table) ≤ length out
+  tick-allowed : (x : Span HE BE D) (out : List ℕ) → 60 * length (x .start .head .table) ≤ length out
       → Allowed HE BE D (last HE BE x) (both-tick out tt)
   tick-allowed x out room =
       let y = last HE BE x in
@@ -80,3 +79,7 @@ module _ (A : Address) (D : ℕ) where
       let same = links-stay (first HE BE x) (x .events) ∙ links-stay (x .start) (x .before) in
       let enough : 60 * length (y .head .table) ≤ length out = rw same room in
       (ready-tick (record { ok = ends .0; room = enough }) .reply, tick-done A (y .box) (ends .1))
+
+pub no-tick-refused : NoTickRefused
+unfolding NoTickRefused
+no-tick-refused A D x out room = tick-allowed A D x out room
