@@ -1,0 +1,49 @@
+-- The box's end of demand 3 is exact: the head holds no link for A through D + 62,499,999 ticks, and the box is registered at their end.
+-- Assumes nothing.
+use Prim.Native.Nat.{ℕ, _+_}
+use mathlib.Core.Path.{_≡_}
+use mathlib.Core.Bool.{true}
+use mathlib.Core.List.{List}
+use native.Mathlib.Omega.{arith}
+use Rattle.frame.specs.declared.Address.{Address}
+use Rattle.range.specs.Fits.{isIndividual}
+use Rattle.floorbox.specs.Hear.{hearOf}
+use Rattle.pairlaw.specs.Run.{End, Moment}
+use Rattle.boxend.specs.End.{BoxEnd}
+use Rattle.headend.specs.End.{HeadEnd}
+use Rattle.pair.specs.Exact.{BoxDrops}
+use Rattle.pair.proofs.Alike.{floor-alike}
+use Rattle.pair.proofs.Lingers.{Silent, Lingers, Echoes, lingers, echoes}
+use Rattle.pair.proofs.Pairs.{Dropped, to-dropped}
+use Rattle.pair.proofs.Reach.{Reach, next, shown}
+use Rattle.pair.proofs.Way.{start-fresh}
+
+module _ (A : Address) (i : isIndividual A ≡ true) (D : ℕ) where
+  abbrev HE : End (List ℕ) (List ℕ)
+  HE = HeadEnd A
+
+  abbrev BE : End (List ℕ) (List ℕ)
+  BE = BoxEnd A
+
+  abbrev M : Type 0
+  M = Moment HE BE
+
+  abbrev P : M → Type 0
+  P = Silent A i hearOf floor-alike D
+
+  abbrev Q : M → Type 0
+  Q = Dropped A i hearOf floor-alike D
+
+  abbrev R : M → Type 0
+  R = Lingers A i hearOf floor-alike D 0
+
+  stays : (m : M) → Q m → Reach HE BE D P m (D + 62_499_999) R
+  stays m q =
+      next HE BE D P D 62_499_999 (Echoes A i hearOf floor-alike D 0) R (echoes A i hearOf floor-alike D m q)
+      (λ y e. lingers A i hearOf floor-alike D 62_499_999 y (e .full))
+
+  pub exact-box-drops : ¬ BoxDrops A D (D + 62_499_999)
+  exact-box-drops f =
+      let fresh = start-fresh A i hearOf floor-alike D in
+      let x = shown HE BE D fresh 32 (D + 62_499_999) P Q R (to-dropped A i hearOf floor-alike D) stays in
+      f (x .span) (omega (arith, x .length)) (x .through) (tt, x .ends .box .state)

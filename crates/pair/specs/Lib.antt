@@ -1,0 +1,4 @@
+pub mod Demand
+pub mod Ticks
+pub mod Exact
+pub mod Floor31
