@@ -6,9 +6,10 @@ use crate::generate::messages::{any_message, granted};
 use crate::generate::states::{any_box, any_head, any_links};
 use crate::generate::values::{address, count, sync};
 use crustnewt::dice::Dice;
-use crustnewt_core::{Core, HeadCore, Newcomer};
+use crustnewt_core::{Core, HeadCore};
 use plain::{
-    Address, Body, FloorBox, Gate, GateRequest, Grant, GrantList, Light, Link, Message, OpenWindow,
+    Address, Body, FloorBox, Gate, GateRequest, Grant, GrantList, Light, Link, Message, Newcomer,
+    OpenWindow,
 };
 use std::fmt::Debug;
 

@@ -2,8 +2,10 @@
 
 use check::{check, check_fixed, compare, compare_wide};
 use crustnewt::replay::replay;
-use crustnewt_core::{BoxCore, BoxReply, Core, HeadCore, HeadReply, Newcomer, PlainCore};
-use plain::{Address, Body, FloorBox, Frame, GateRequest, Head, Link, Message, Next, OpenWindow};
+use crustnewt_core::{BoxCore, BoxReply, Core, HeadCore, HeadReply, PlainCore};
+use plain::{
+    Address, Body, FloorBox, Frame, GateRequest, Head, Link, Message, Newcomer, Next, OpenWindow,
+};
 
 /// What is wrong with a spoiled core.
 #[derive(Clone, Copy, Debug, PartialEq, Eq)]

@@ -7,8 +7,8 @@
 mod plain_core;
 
 use plain::{
-    Address, BoxNotice, Few, FloorBox, Frame, GateRequest, Head, HeadNotice, Link, Message, Next,
-    OpenWindow,
+    Address, BoxNotice, Few, FloorBox, Frame, GateRequest, Head, HeadNotice, Link, Message,
+    Newcomer, Next, OpenWindow,
 };
 
 pub use plain_core::PlainCore;
@@ -82,17 +82,6 @@ pub trait BoxCore {
     fn state(&self) -> FloorBox;
     /// Sets the box's state.
     fn set_state(&mut self, state: &FloorBox);
-}
-
-/// Whom admit and reject speak of.
-#[derive(Clone, Copy, Debug, PartialEq, Eq)]
-pub struct Newcomer {
-    /// The box's address.
-    pub address: Address,
-    /// Pending grants to echo.
-    pub pending: u8,
-    /// Sync time to assign.
-    pub sync: u32,
 }
 
 /// What a call of a head answers. It has room for what a refusal must not

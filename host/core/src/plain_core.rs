@@ -1,9 +1,9 @@
 //! The plain implementation as a core.
 
-use crate::{BoxCore, BoxReply, Core, HeadCore, HeadReply, Newcomer};
+use crate::{BoxCore, BoxReply, Core, HeadCore, HeadReply};
 use plain::{
-    frame, Address, BoxAnswer, FloorBox, Frame, GateRequest, Head, HeadAnswer, Link, Message, Next,
-    OpenWindow, Refusal,
+    frame, Address, BoxAnswer, FloorBox, Frame, GateRequest, Head, HeadAnswer, Link, Message,
+    Newcomer, Next, OpenWindow, Refusal,
 };
 
 /// The plain implementation.
@@ -60,24 +60,14 @@ impl HeadCore for PlainHead {
     }
 
     fn admit(&mut self, newcomer: &Newcomer) -> HeadReply {
-        let Newcomer {
-            address,
-            pending,
-            sync,
-        } = *newcomer;
         self.head
-            .admit(&mut self.links, &mut self.output, address, pending, sync)
+            .admit(&mut self.links, &mut self.output, newcomer)
             .into()
     }
 
     fn reject(&mut self, newcomer: &Newcomer) -> HeadReply {
-        let Newcomer {
-            address,
-            pending,
-            sync,
-        } = *newcomer;
         self.head
-            .reject(&self.links, &mut self.output, address, pending, sync)
+            .reject(&self.links, &mut self.output, newcomer)
             .into()
     }
 

@@ -59,6 +59,17 @@ pub struct OpenWindow {
     pub window: u32,
 }
 
+/// Whom admit and reject speak of.
+#[derive(Clone, Copy, Debug, PartialEq, Eq)]
+pub struct Newcomer {
+    /// The box's address.
+    pub address: Address,
+    /// Pending grants to echo.
+    pub pending: u8,
+    /// Sync time to assign.
+    pub sync: u32,
+}
+
 /// What gating a link asks for.
 #[derive(Clone, Copy, Debug, PartialEq, Eq)]
 pub struct GateRequest {
@@ -152,43 +163,30 @@ impl Head {
     }
 
     /// Takes a newcomer onto the lowest idle link.
-    pub fn admit(
-        &mut self,
-        links: &mut [Link],
-        output: &mut [u8],
-        address: Address,
-        pending: u8,
-        sync: u32,
-    ) -> Answer {
+    pub fn admit(&mut self, links: &mut [Link], output: &mut [u8], newcomer: &Newcomer) -> Answer {
         self.require_ready(links, output)?;
-        require_newcomer(address, sync)?;
+        newcomer.require_in_range()?;
+        let address = newcomer.address;
         let held = links.iter().any(|link| link.address == address);
         require(!held, Refusal::AlreadyHeld)?;
         let idle = links.iter().position(|link| !link.is_held());
         let place = idle.ok_or(Refusal::TableFull)?;
         links[place] = Link::waiting(address);
-        let body = register(place, RegisterFlag::Ack, sync, pending);
+        let body = register(place, RegisterFlag::Ack, newcomer.sync, newcomer.pending);
         Post::one(self, output, address, body)
     }
 
     /// Rejects a newcomer.
-    pub fn reject(
-        &self,
-        links: &[Link],
-        output: &mut [u8],
-        address: Address,
-        pending: u8,
-        sync: u32,
-    ) -> Answer {
+    pub fn reject(&self, links: &[Link], output: &mut [u8], newcomer: &Newcomer) -> Answer {
         self.require_ready(links, output)?;
-        require_newcomer(address, sync)?;
+        newcomer.require_in_range()?;
         let body = Body::Register {
             port: 0,
             flag: RegisterFlag::Nack,
-            sync,
-            pending,
+            sync: newcomer.sync,
+            pending: newcomer.pending,
         };
-        Post::one(self, output, address, body)
+        Post::one(self, output, newcomer.address, body)
     }
 
     /// Has a registered box register again.
@@ -307,12 +305,14 @@ impl GateRequest {
     }
 }
 
-/// Tests 4 of admit and reject.
-fn require_newcomer(address: Address, sync: u32) -> Result<(), Refusal> {
-    require(
-        address.is_individual() && sync <= LONGEST,
-        Refusal::OutOfRange,
-    )
+impl Newcomer {
+    /// Test 4 of admit and reject.
+    fn require_in_range(&self) -> Result<(), Refusal> {
+        require(
+            self.address.is_individual() && self.sync <= LONGEST,
+            Refusal::OutOfRange,
+        )
+    }
 }
 
 /// The place of a held link, for a link number from 1; else 6.

@@ -25,7 +25,9 @@ pub use few::Few;
 pub use floor_box::{BoxAnswer, BoxNotice, BoxState, FloorBox, Next};
 pub use frame::{Body, Frame, Gate, Message};
 pub use grants::{Grant, GrantList, Granted};
-pub use head::{GateRequest, Head, HeadAnswer, HeadNotice, HeadNoticeKind, OpenWindow, Window};
+pub use head::{
+    GateRequest, Head, HeadAnswer, HeadNotice, HeadNoticeKind, Newcomer, OpenWindow, Window,
+};
 pub use light::Light;
 pub use link::{Link, LinkState};
 pub use refusal::Refusal;

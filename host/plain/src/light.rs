@@ -83,6 +83,20 @@ impl Light {
         }
     }
 
+    /// The timer of what the transmitter does, none at rest.
+    pub fn timer(&mut self) -> Option<&mut u32> {
+        match self {
+            Light::Rest => None,
+            Light::Before { left, .. }
+            | Light::Random { left, .. }
+            | Light::Warming { left }
+            | Light::Asking { left }
+            | Light::Due { left, .. }
+            | Light::Lit { left, .. }
+            | Light::Open { left } => Some(left),
+        }
+    }
+
     /// Ticks left in which frames may be sent, 0 while that is disabled.
     pub const fn window(&self) -> u32 {
         match *self {
@@ -153,16 +167,7 @@ impl Light {
 
     /// One tick; true when what the transmitter does has come to its end.
     pub(crate) fn run_out(&mut self) -> bool {
-        match self {
-            Light::Rest => false,
-            Light::Before { left, .. }
-            | Light::Random { left, .. }
-            | Light::Warming { left }
-            | Light::Asking { left }
-            | Light::Due { left, .. }
-            | Light::Lit { left, .. }
-            | Light::Open { left } => crate::numbers::run_out(left),
-        }
+        self.timer().is_some_and(crate::numbers::run_out)
     }
 }
 

@@ -3,7 +3,7 @@
 use plain::frame::{read, AckFlag, RegisterFlag, RequestFlag};
 use plain::{
     Address, Body, Count, Gate, GateRequest, Grant, Granted, Head, HeadAnswer, HeadNotice,
-    HeadNoticeKind, Link, LinkState, Message, OpenWindow, Refusal, Window,
+    HeadNoticeKind, Link, LinkState, Message, Newcomer, OpenWindow, Refusal, Window,
 };
 
 const HEAD: Address = Address(0x0A0B_0C0D_0E0F);
@@ -59,8 +59,13 @@ impl Desk {
     }
 
     fn admit(&mut self, address: Address) -> Result<HeadAnswer, Refusal> {
+        let newcomer = Newcomer {
+            address,
+            pending: 16,
+            sync: 9,
+        };
         self.head
-            .admit(&mut self.links, &mut self.output, address, 16, 9)
+            .admit(&mut self.links, &mut self.output, &newcomer)
     }
 
     fn open(&mut self, start: u32, length: u32, window: u32) -> Result<HeadAnswer, Refusal> {
@@ -205,7 +210,12 @@ fn admit_takes_the_lowest_idle_link() {
 fn reject_changes_no_state() {
     let mut desk = Desk::registered(1);
     let before = desk.links.clone();
-    let answer = desk.head.reject(&desk.links, &mut desk.output, BOX, 7, 8);
+    let newcomer = Newcomer {
+        address: BOX,
+        pending: 7,
+        sync: 8,
+    };
+    let answer = desk.head.reject(&desk.links, &mut desk.output, &newcomer);
     assert_eq!(answer, Ok(ONE_FRAME));
     let body = Body::Register {
         port: 0,

@@ -1,8 +1,8 @@
 //! The head's client: a plain one.
 
-use crustnewt_core::{HeadCore, HeadReply, Newcomer};
+use crustnewt_core::{HeadCore, HeadReply};
 use plain::numbers::{needed_length, CONTROL_FRAME};
-use plain::{Address, Count, Gate, GateRequest, Grant, Link, LinkState, OpenWindow};
+use plain::{Address, Count, Gate, GateRequest, Grant, Link, LinkState, Newcomer, OpenWindow};
 
 /// Ticks between discovery windows: a tenth of a second.
 const BETWEEN_WINDOWS: u64 = 6_250_000;

@@ -62,15 +62,8 @@ pub(super) fn pass_box(floor_box: &mut FloorBox, ticks: u32) {
     ] {
         pass_timer(timer, ticks);
     }
-    match &mut floor_box.light {
-        Light::Rest => {}
-        Light::Before { left, .. }
-        | Light::Random { left, .. }
-        | Light::Warming { left }
-        | Light::Asking { left }
-        | Light::Due { left, .. }
-        | Light::Lit { left, .. }
-        | Light::Open { left } => *left -= ticks,
+    if let Some(left) = floor_box.light.timer() {
+        *left -= ticks;
     }
 }
 

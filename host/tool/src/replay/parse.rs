@@ -1,9 +1,8 @@
 //! Lines of a script as calls.
 
-use crustnewt_core::Newcomer;
 use plain::{
-    Address, BoxState, Count, Gate, GateRequest, Grant, GrantList, Head, Light, Link, LinkState,
-    OpenWindow, Window,
+    Address, BoxState, Count, FloorBox, Gate, GateRequest, Grant, GrantList, Head, Light, Link,
+    LinkState, Newcomer, OpenWindow, Window,
 };
 
 /// Most links, and most octets of output, that a script can lend.
@@ -47,24 +46,10 @@ pub enum Call {
     BoxHear { random: u32, frame: Vec<u8> },
     BoxNext { control: usize, data: usize },
     BoxTick(u64),
-    BoxState(BoxLine),
+    BoxState(FloorBox),
     BoxList(GrantList),
     BoxLight(Light),
     BothTick(u64),
-}
-
-/// The part of a box's state that `box state` sets.
-#[derive(Clone, Copy, Debug, PartialEq, Eq)]
-#[allow(missing_docs)] // the fields are those of `plain::FloorBox`
-pub struct BoxLine {
-    pub address: Address,
-    pub count: Count,
-    pub state: BoxState,
-    pub wait: u32,
-    pub watchdog: u32,
-    pub report: u32,
-    pub port: u16,
-    pub sync: u32,
 }
 
 /// What a line is, without its newline.
@@ -197,8 +182,9 @@ fn link(words: &mut Words<'_>) -> Option<Link> {
     })
 }
 
-fn box_line(words: &mut Words<'_>) -> Option<BoxLine> {
-    Some(BoxLine {
+/// What `box state` sets; the transmitter and the list of this box play no part.
+fn box_line(words: &mut Words<'_>) -> Option<FloorBox> {
+    Some(FloorBox {
         address: words.address()?,
         count: Count(words.number()?),
         state: match words.word()? {
@@ -213,6 +199,7 @@ fn box_line(words: &mut Words<'_>) -> Option<BoxLine> {
         report: words.number()?,
         port: words.number()?,
         sync: words.quanta()?,
+        ..FloorBox::default()
     })
 }
 

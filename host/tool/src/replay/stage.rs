@@ -1,6 +1,6 @@
 //! One head and one box, and the calls that a script makes on them.
 
-use super::parse::{BoxLine, Call};
+use super::parse::Call;
 use super::print;
 use crustnewt_core::{BoxCore, BoxReply, Core, HeadCore, HeadReply};
 use plain::{FloorBox, Link, Next};
@@ -173,17 +173,11 @@ impl Stage<'_> {
 }
 
 /// Sets what `box state` names; the transmitter and the list stay.
-fn set_line(state: &mut FloorBox, line: &BoxLine) {
+fn set_line(state: &mut FloorBox, line: &FloorBox) {
     *state = FloorBox {
-        address: line.address,
-        count: line.count,
-        state: line.state,
-        wait: line.wait,
-        watchdog: line.watchdog,
-        report: line.report,
-        port: line.port,
-        sync: line.sync,
-        ..*state
+        light: state.light,
+        grants: state.grants,
+        ..*line
     };
 }
 
