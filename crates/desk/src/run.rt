@@ -11,8 +11,6 @@ use links::Link;
 use script::out;
 use serving::Answer;
 
-const OUTPUT: usize = 180;
-
 fn tell_number(reply: Reply) {
     out::text(b" ->");
     out::number(reply.number() as u64);
@@ -142,7 +140,7 @@ pub fn handed(desk: Desk, next: Desk) -> Desk {
 }
 
 pub fn output(desk: Desk, number: u64) -> Desk {
-    if number > OUTPUT as u64 {
+    if number > Served::OUTPUT as u64 {
         return not_asked(desk);
     }
     out::text(b" -> output");

@@ -1,4 +1,5 @@
 // What stands between two calls: the head, its table, its output, and how much of the output is lent.
+use face::Served;
 use frame::Address;
 use head::Head;
 use links::Link;
@@ -24,7 +25,7 @@ impl Desk {
             head,
             links,
             out: [Desk::UNTOUCHED; 180],
-            lent: 180,
+            lent: Served::OUTPUT,
         }
     }
 

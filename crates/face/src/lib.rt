@@ -8,9 +8,6 @@ use judging::Request;
 use links::Link;
 use serving::Answer;
 
-// Sixty octets for each link.
-const OUTPUT: usize = 180;
-
 pub struct Served {
     pub answer: Answer,
     pub links: [Link; 3],
@@ -20,6 +17,11 @@ pub struct Served {
 pub struct Begun {
     pub answer: Answer,
     pub links: [Link; 3],
+}
+
+impl Served {
+    // Sixty octets for each link.
+    pub const OUTPUT: usize = 180;
 }
 
 fn hand_back(answer: Answer, links: [Link; 3], out: [u8; 180]) -> Served
@@ -37,7 +39,11 @@ fn hand_back_table(answer: Answer, links: [Link; 3]) -> Begun
 fn at_most(lent: usize) -> usize
     ensures { λ r. ⌜ r ≡ min lent 180 ⌝ }
 {
-    if lent < OUTPUT { lent } else { OUTPUT }
+    if lent < Served::OUTPUT {
+        lent
+    } else {
+        Served::OUTPUT
+    }
 }
 
 fn lend(head: Head, links: [Link; 3], request: Request, out: [u8; 180], lent: usize) -> Served
