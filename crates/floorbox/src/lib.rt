@@ -1,6 +1,7 @@
 // The floor box: document 01's box, with an own address, and its calls. Each answers every input.
 ghost use mathlib.Core.Path.{_≡_};
-ghost use Rattle.floorbox.specs.Answer.{bare, refused, framed, accepted};
+ghost use Rattle.floorbox.specs.Answer.{bare, refused, messageOf, framed, accepted};
+ghost use Rattle.writer.specs.Write.{writeOf};
 ghost use Rattle.floorbox.specs.Box.{soundOf, freshOf, registerOf, deregisterOf, tickOf};
 ghost use Rattle.floorbox.specs.Hear.{isFromHead, isDiscovery, isFor, heardOf, hearOf};
 ghost use Rattle.floorbox.specs.Send.{remaining, fitsIn, sendOf};
@@ -28,6 +29,30 @@ pub struct Answer {
     pub next: FloorBox,
     pub frames: Frames,
     pub notices: Notices,
+}
+
+// The frames of a box go from its own address to 01-80-C2-00-00-01 with its count.
+fn written(source: Address, now: Count, body: Body) -> [u8; 60]
+    ensures { λ r. ⌜ r ≡ writeOf (messageOf source now body) .octets ⌝ }
+{
+    let destination = Address::MULTICAST;
+    let message = Message {
+        destination,
+        source,
+        timestamp: now,
+        body,
+    };
+    let writing = writer::write(message);
+    writing.octets
+}
+
+fn frame(source: Address, now: Count, frames: Frames, sent: Sent) -> Frames
+    ensures { λ r. ⌜ r ≡ framed source now frames sent ⌝ }
+{
+    match sent {
+        Sent::Nothing => frames,
+        Sent::Is(body) => frames.and(written(source, now, body)),
+    }
 }
 
 impl FloorBox {
@@ -76,28 +101,6 @@ impl FloorBox {
         self.bare(reply)
     }
 
-    // The frames of a box go from its own address to 01-80-C2-00-00-01 with its count.
-    fn frame(self, now: Count, frames: Frames, sent: Sent) -> Frames
-        ensures { λ r. ⌜ r ≡ framed (self .address) now frames sent ⌝ }
-    {
-        match sent {
-            Sent::Nothing => frames,
-            Sent::Is(body) => {
-                let source = self.address;
-                let destination = Address::MULTICAST;
-                let message = Message {
-                    destination,
-                    source,
-                    timestamp: now,
-                    body,
-                };
-                let written = writer::write(message);
-                let octets = written.octets;
-                frames.and(octets)
-            }
-        }
-    }
-
     // What a step makes of the box, with activation at its end.
     fn accepted(self, drift: i64, step: Step) -> Answer
         ensures { λ r. ⌜ r ≡ accepted self drift step ⌝ }
@@ -108,7 +111,12 @@ impl FloorBox {
         let first = step.first;
         let second = step.second;
         let notices = step.notices;
-        let frames = self.frame(now, self.frame(now, Frames::none(), first), second);
+        let frames = frame(
+            address,
+            now,
+            frame(address, now, Frames::none(), first),
+            second,
+        );
         let processes = activation::activate(stepped);
         let next = FloorBox { address, processes };
         Answer {

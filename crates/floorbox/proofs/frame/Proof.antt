@@ -1,8 +1,8 @@
--- `floorbox::FloorBox::frame` meets its promise.
+-- `floorbox::frame` meets its promise.
 -- Assumes nothing.
 use borrow.Author.Needs.{needs}
-use Rattle.floorbox.proofs.FloorBox.frame.Statement.{statement}
-use Rattle.floorbox.proofs.FloorBox.frame.Tie as tie
+use Rattle.floorbox.proofs.frame.Statement.{statement}
+use Rattle.floorbox.proofs.frame.Tie as tie
 
 enum-told : tie.Need-enum-told
 enum-told c = search needs
@@ -10,8 +10,8 @@ enum-told c = search needs
 enum-known-sent : tie.Need-enum-known-sent
 enum-known-sent c = search needs
 
-write-requires : tie.Need-write-requires
-write-requires c κs = search needs
+written-requires : tie.Need-written-requires
+written-requires c κs = search needs
 
 and-requires : tie.Need-and-requires
 and-requires c κs = search needs
@@ -23,10 +23,10 @@ returns-2 : tie.Need-returns-2
 returns-2 c =
     rw (
       c .and .ensures,
-      c .before .before .write .ensures,
-      c .before .before .before .before .before .sent .given .1,
+      c .before .written .ensures,
+      c .before .before .before .sent .given .1,
     )
 
 pub frame-spec : {M : Type 1} → statement M
 frame-spec =
-    tie.close (tie.spec enum-told enum-known-sent write-requires and-requires returns returns-2)
+    tie.close (tie.spec enum-told enum-known-sent written-requires and-requires returns returns-2)

@@ -1,0 +1,19 @@
+-- Every promise of this crate settles the whole answer.
+-- Assumes nothing.
+use mathlib.Core.Path.{sym, _∙_}
+use Rattle.laws.specs.Settles.{Settles}
+use Rattle.boxwords.proofs.pack.Kinds as pack-kinds
+use Rattle.boxwords.proofs.pack.Reads as pack
+use Rattle.boxwords.proofs.unpack.Kinds as unpack-kinds
+use Rattle.boxwords.proofs.unpack.Reads as unpack
+use Rattle.boxwords.proofs.told.Kinds as told-kinds
+use Rattle.boxwords.proofs.told.Reads as told
+
+pub pack-settles : Settles 0 pack-kinds.ps pack-kinds.r pack.Post
+pack-settles κs a e x y p q = p ∙ sym q
+
+pub unpack-settles : Settles 0 unpack-kinds.ps unpack-kinds.r unpack.Post
+unpack-settles κs a e x y p q = p ∙ sym q
+
+pub told-settles : Settles 0 told-kinds.ps told-kinds.r told.Post
+told-settles κs a e x y p q = p ∙ sym q

@@ -1,0 +1,134 @@
+-- A box as words of 64 bits: which word holds what, and what box any words tell.
+-- Assumes nothing.
+use Prim.Native.Nat.{ℕ, _+_, _*_, _/_, _%_, _^_, min}
+use mathlib.Core.Bool.{cond}
+use mathlib.Core.List.{List, [], _∷_, map}
+use lib.Dec.{eqb, ltb}
+use lib.ListN.{drop, getD}
+use Rattle.clock.specs.declared.Quanta.{Quanta}
+use Rattle.clock.specs.declared.Timer.{Timer}
+use Rattle.floorbox.specs.declared.FloorBox.{FloorBox}
+use Rattle.frame.specs.declared.Address.{Address}
+use Rattle.grants.specs.declared.Entry.{Entry}
+use Rattle.grants.specs.declared.GrantList.{GrantList}
+use Rattle.light.specs.declared.Light.{Light}
+use Rattle.light.specs.declared.Light.the-variants.{Rest, Before, Random, Warming, Asking, Due, Lit, Open}
+use Rattle.registration.specs.declared.Registration.{Registration}
+use Rattle.registration.specs.declared.State.{State}
+use Rattle.registration.specs.declared.State.the-variants.{Wait, Registering, RegisterReq, Registered}
+use Rattle.words.specs.Words.{narrowed}
+use Rattle.boxwords.specs.declared.LightWords.{LightWords}
+
+-- a grant's start above its length: every word is one grant's, and every grant has one word
+abbrev pub entryWord : Entry → ℕ
+entryWord e = e .start .0 * 2 ^ 32 + e .length .0
+
+abbrev pub entryOf : ℕ → Entry
+entryOf w = record { start = record { 0 = w / 2 ^ 32 }; length = record { 0 = w % 2 ^ 32 } }
+
+abbrev pub listOf : ℕ → List ℕ → GrantList
+listOf number entries = record { entries = map entryOf entries; number = number }
+
+abbrev pub stateWord : State → ℕ
+stateWord Wait = 0
+stateWord Registering = 1
+stateWord RegisterReq = 2
+stateWord Registered = 3
+
+unfoldable pub stateOf : ℕ → State
+stateOf w = cond (eqb w 0) Wait (cond (eqb w 1) Registering (cond (eqb w 2) RegisterReq Registered))
+
+-- a timer that runs past every setting: sound in no state
+abbrev pub strange : Timer
+strange = record { left = 4294967295 }
+
+abbrev pub timerOf : ℕ → Timer
+timerOf w = record { left = narrowed w }
+
+abbrev pub quantaOf : ℕ → Quanta
+quantaOf w = record { 0 = narrowed w }
+
+-- words that are no state's or no port's make the wait strange
+unfoldable pub waitOf : ℕ → ℕ → ℕ → Timer
+waitOf state port wait = cond (ltb 3 state) strange (cond (ltb 65535 port) strange (timerOf wait))
+
+abbrev pub portOf : ℕ → ℕ
+portOf w = min w 65535
+
+abbrev pub registrationOf : ℕ → ℕ → ℕ → ℕ → ℕ → ℕ → Registration
+registrationOf state wait watchdog report port sync =
+    record {
+      state = stateOf state;
+      wait = waitOf state port wait;
+      watchdog = timerOf watchdog;
+      report = timerOf report;
+      port = portOf port;
+      sync = quantaOf sync;
+    }
+
+abbrev pub phaseWords : ℕ → Timer → ℕ → ℕ → LightWords
+phaseWords phase timer grant sync = record { phase = phase; left = timer .left; grant = grant; sync = sync }
+
+-- what a phase does not hold is 0
+abbrev pub lightWords : Light → LightWords
+lightWords Rest = phaseWords 0 (record { left = 0 }) 0 0
+lightWords (Before t random sync) = phaseWords 1 t (random .0) (sync .0)
+lightWords (Random t sync) = phaseWords 2 t 0 (sync .0)
+lightWords (Warming t) = phaseWords 3 t 0 0
+lightWords (Asking t) = phaseWords 4 t 0 0
+lightWords (Due t entry sync) = phaseWords 5 t (entryWord entry) (sync .0)
+lightWords (Lit t length sync) = phaseWords 6 t (length .0) (sync .0)
+lightWords (Open t) = phaseWords 7 t 0 0
+
+unfoldable pub lightOf : LightWords → Light
+lightOf w =
+    let t = timerOf (w .left) in
+    let sync = quantaOf (w .sync) in
+    cond (eqb (w .phase) 0) Rest
+    (cond (eqb (w .phase) 1) (Before t (quantaOf (w .grant)) sync)
+    (cond (eqb (w .phase) 2) (Random t sync)
+    (cond (eqb (w .phase) 3) (Warming t)
+    (cond (eqb (w .phase) 4) (Asking t)
+    (cond (eqb (w .phase) 5) (Due t (entryOf (w .grant)) sync)
+    (cond (eqb (w .phase) 6) (Lit t (quantaOf (w .grant)) sync)
+    (cond (eqb (w .phase) 7) (Open t) (Before strange (quantaOf 0) (quantaOf 0)))))))))
+
+-- a count that has more than 32 bits is nobody's
+unfoldable pub addressOf : ℕ → ℕ → Address
+addressOf address count = cond (ltb 4294967295 count) (record { 0 = 0 }) (record { 0 = address })
+
+-- the words of a box, in their order
+unfoldable pub boxWords : FloorBox → List ℕ
+boxWords b =
+    let p = b .processes in
+    let r = p .registration in
+    let l = lightWords (p .light) in
+    b .address .0
+    ∷ p .count .0
+    ∷ stateWord (r .state)
+    ∷ r .wait .left
+    ∷ r .watchdog .left
+    ∷ r .report .left
+    ∷ r .port
+    ∷ r .sync .0
+    ∷ l .phase
+    ∷ l .left
+    ∷ l .grant
+    ∷ l .sync
+    ∷ p .list .number
+    ∷ map entryWord (p .list .entries)
+
+-- the box that words tell
+unfoldable pub boxOf : List ℕ → FloorBox
+boxOf w =
+    let at : ℕ → ℕ = λ i. getD w i 0 in
+    record {
+      address = addressOf (at 0) (at 1);
+      processes =
+          record {
+            count = record { 0 = narrowed (at 1) };
+            registration = registrationOf (at 2) (at 3) (at 4) (at 5) (at 6) (at 7);
+            list = listOf (at 12) (drop 13 w);
+            light = lightOf (record { phase = at 8; left = at 9; grant = at 10; sync = at 11 });
+          };
+    }

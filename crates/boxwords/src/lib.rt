@@ -1,0 +1,407 @@
+// A box as words of 64 bits, which is how the C face keeps it in the caller's memory, and a box's answer as words.
+ghost use mathlib.Core.Path.{_≡_};
+ghost use mathlib.Core.Bool.{cond};
+ghost use mathlib.Core.List.{map};
+ghost use Rattle.boxwords.specs.Box.{entryWord, entryOf, stateWord, stateOf, strange, timerOf, quantaOf, waitOf, portOf, registrationOf, phaseWords, lightWords, lightOf, listOf, addressOf, boxWords, boxOf};
+ghost use Rattle.boxwords.specs.Told.{kindWords, noticeWords, toldWords};
+use clock::Count;
+use clock::Quanta;
+use clock::Timer;
+use floorbox::FloorBox;
+use frame::Address;
+use grants::Entry;
+use grants::GrantList;
+use light::Light;
+use processes::Processes;
+use registration::Registration;
+use registration::State;
+use telling::Notice;
+use telling::Notices;
+
+// A number of 32 bits above another makes one word.
+const TURN: u64 = 0x100000000;
+
+const LARGEST: u32 = 0xFFFFFFFF;
+
+// The transmitter: its phase, the ticks left, what it holds of a grant, and the sync held.
+pub struct LightWords {
+    pub phase: u64,
+    pub left: u64,
+    pub grant: u64,
+    pub sync: u64,
+}
+
+// A notice: its kind and, of a grant that was taken, start, length and force bit.
+pub struct NoticeWords {
+    pub kind: u64,
+    pub start: u64,
+    pub length: u64,
+    pub force: u64,
+}
+
+// A grant's start above its length.
+fn entry_word(e: Entry) -> u64
+    ensures { λ r. ⌜ r ≡ entryWord e ⌝ }
+{
+    let start = e.start;
+    let length = e.length;
+    start.0 as u64 * TURN + length.0 as u64
+}
+
+fn entry_of(word: u64) -> Entry
+    ensures { λ r. ⌜ r ≡ entryOf word ⌝ }
+{
+    Entry {
+        start: Count((word / TURN) as u32),
+        length: Quanta((word % TURN) as u32),
+    }
+}
+
+fn entry_words(list: GrantList) -> [u64; 16]
+    ensures { λ r. ⌜ r ≡ map entryWord (list .entries) ⌝ }
+{
+    let entries = list.entries;
+    let mut out = [0u64; 16];
+    let mut i = 0;
+    while i < GrantList::ROOM {
+        let e = entries[i];
+        out[i] = entry_word(e);
+        i += 1;
+    }
+    out
+}
+
+fn list_of(number: u64, entries: [u64; 16]) -> GrantList
+    ensures { λ r. ⌜ r ≡ listOf number entries ⌝ }
+{
+    let mut out = [entry_of(0); 16];
+    let mut i = 0;
+    while i < GrantList::ROOM {
+        let e = entry_of(entries[i]);
+        out[i] = e;
+        i += 1;
+    }
+    GrantList {
+        entries: out,
+        number: number as usize,
+    }
+}
+
+fn state_word(state: State) -> u64
+    ensures { λ r. ⌜ r ≡ stateWord state ⌝ }
+{
+    match state {
+        State::Wait => 0,
+        State::Registering => 1,
+        State::RegisterReq => 2,
+        State::Registered => 3,
+    }
+}
+
+fn state_of(word: u64) -> State
+    ensures { λ r. ⌜ r ≡ stateOf word ⌝ }
+{
+    if word == 0 {
+        return State::Wait;
+    }
+    if word == 1 {
+        return State::Registering;
+    }
+    if word == 2 {
+        return State::RegisterReq;
+    }
+    State::Registered
+}
+
+// A timer that runs past every setting: sound in no state.
+fn strange() -> Timer
+    ensures { λ r. ⌜ r ≡ strange ⌝ }
+{
+    Timer { left: LARGEST }
+}
+
+fn timer_of(word: u64) -> Timer
+    ensures { λ r. ⌜ r ≡ timerOf word ⌝ }
+{
+    Timer {
+        left: words::narrow(word),
+    }
+}
+
+fn quanta_of(word: u64) -> Quanta
+    ensures { λ r. ⌜ r ≡ quantaOf word ⌝ }
+{
+    Quanta(words::narrow(word))
+}
+
+// The wait of a registration; words that are no state's or no port's make it unsound.
+fn wait_of(state: u64, port: u64, wait: u64) -> Timer
+    ensures { λ r. ⌜ r ≡ waitOf state port wait ⌝ }
+{
+    if 3 < state {
+        return strange();
+    }
+    if 65535 < port {
+        return strange();
+    }
+    timer_of(wait)
+}
+
+fn port_of(word: u64) -> u16
+    ensures { λ r. ⌜ r ≡ portOf word ⌝ }
+{
+    if word < 65535 {
+        return word as u16;
+    }
+    65535
+}
+
+fn registration_of(
+    state: u64,
+    wait: u64,
+    watchdog: u64,
+    report: u64,
+    port: u64,
+    sync: u64,
+) -> Registration
+    ensures { λ r. ⌜ r ≡ registrationOf state wait watchdog report port sync ⌝ }
+{
+    Registration {
+        state: state_of(state),
+        wait: wait_of(state, port, wait),
+        watchdog: timer_of(watchdog),
+        report: timer_of(report),
+        port: port_of(port),
+        sync: quanta_of(sync),
+    }
+}
+
+fn phase(phase: u64, timer: Timer, grant: u64, sync: u64) -> LightWords
+    ensures { λ r. ⌜ r ≡ phaseWords phase timer grant sync ⌝ }
+{
+    LightWords {
+        phase,
+        left: timer.left as u64,
+        grant,
+        sync,
+    }
+}
+
+fn light_words(light: Light) -> LightWords
+    ensures { λ r. ⌜ r ≡ lightWords light ⌝ }
+{
+    match light {
+        Light::Rest => phase(0, Timer::stopped(), 0, 0),
+        Light::Before {
+            timer,
+            random,
+            sync,
+        } => phase(1, timer, random.0 as u64, sync.0 as u64),
+        Light::Random { timer, sync } => phase(2, timer, 0, sync.0 as u64),
+        Light::Warming { timer } => phase(3, timer, 0, 0),
+        Light::Asking { timer } => phase(4, timer, 0, 0),
+        Light::Due { timer, entry, sync } => phase(5, timer, entry_word(entry), sync.0 as u64),
+        Light::Lit {
+            timer,
+            length,
+            sync,
+        } => phase(6, timer, length.0 as u64, sync.0 as u64),
+        Light::Open { timer } => phase(7, timer, 0, 0),
+    }
+}
+
+// A word that is no phase's gives a dark one that is never sound.
+fn light_of(w: LightWords) -> Light
+    ensures { λ r. ⌜ r ≡ lightOf w ⌝ }
+{
+    let phase = w.phase;
+    let grant = w.grant;
+    let timer = timer_of(w.left);
+    let sync = quanta_of(w.sync);
+    if phase == 0 {
+        return Light::Rest;
+    }
+    if phase == 1 {
+        return Light::Before {
+            timer,
+            random: quanta_of(grant),
+            sync,
+        };
+    }
+    if phase == 2 {
+        return Light::Random { timer, sync };
+    }
+    if phase == 3 {
+        return Light::Warming { timer };
+    }
+    if phase == 4 {
+        return Light::Asking { timer };
+    }
+    if phase == 5 {
+        return Light::Due {
+            timer,
+            entry: entry_of(grant),
+            sync,
+        };
+    }
+    if phase == 6 {
+        return Light::Lit {
+            timer,
+            length: quanta_of(grant),
+            sync,
+        };
+    }
+    if phase == 7 {
+        return Light::Open { timer };
+    }
+    Light::Before {
+        timer: strange(),
+        random: Quanta(0),
+        sync: Quanta(0),
+    }
+}
+
+// A count that has more than 32 bits is nobody's: the box holds address zero, and is unsound.
+fn address_of(address: u64, count: u64) -> Address
+    ensures { λ r. ⌜ r ≡ addressOf address count ⌝ }
+{
+    if 0xFFFFFFFF < count {
+        return Address(0);
+    }
+    Address(address)
+}
+
+// The whole box.
+pub fn pack(b: FloorBox) -> [u64; 29]
+    ensures { λ r. ⌜ r ≡ boxWords b ⌝ }
+{
+    let address = b.address;
+    let processes = b.processes;
+    let count = processes.count;
+    let registration = processes.registration;
+    let list = processes.list;
+    let held = processes.light;
+    let light = light_words(held);
+    let state = registration.state;
+    let wait = registration.wait;
+    let watchdog = registration.watchdog;
+    let report = registration.report;
+    let sync = registration.sync;
+    let entries = entry_words(list);
+    let mut w = [0u64; 29];
+    w[0] = address.0;
+    w[1] = count.0 as u64;
+    w[2] = state_word(state);
+    w[3] = wait.left as u64;
+    w[4] = watchdog.left as u64;
+    w[5] = report.left as u64;
+    w[6] = registration.port as u64;
+    w[7] = sync.0 as u64;
+    w[8] = light.phase;
+    w[9] = light.left;
+    w[10] = light.grant;
+    w[11] = light.sync;
+    w[12] = list.number as u64;
+    words::lay(&entries, &mut w[13..]);
+    w
+}
+
+// The box that the words tell. Those that no box packs to give an unsound one.
+pub fn unpack(w: [u64; 29]) -> FloorBox
+    ensures { λ r. ⌜ r ≡ boxOf w ⌝ }
+{
+    let mut entries = [0u64; 16];
+    words::lay(&w[13..], &mut entries);
+    let held = LightWords {
+        phase: w[8],
+        left: w[9],
+        grant: w[10],
+        sync: w[11],
+    };
+    let processes = Processes {
+        count: Count(words::narrow(w[1])),
+        registration: registration_of(w[2], w[3], w[4], w[5], w[6], w[7]),
+        list: list_of(w[12], entries),
+        light: light_of(held),
+    };
+    FloorBox {
+        address: address_of(w[0], w[1]),
+        processes,
+    }
+}
+
+fn kind(kind: u64) -> NoticeWords
+    ensures { λ r. ⌜ r ≡ kindWords kind ⌝ }
+{
+    NoticeWords {
+        kind,
+        start: 0,
+        length: 0,
+        force: 0,
+    }
+}
+
+fn bit(set: bool) -> u64
+    ensures { λ r. ⌜ r ≡ cond set 1 0 ⌝ }
+{
+    if set { 1 } else { 0 }
+}
+
+fn notice_words(notice: Notice) -> NoticeWords
+    ensures { λ r. ⌜ r ≡ noticeWords notice ⌝ }
+{
+    match notice {
+        Notice::Nothing => kind(0),
+        Notice::Window => kind(1),
+        Notice::Registered => kind(2),
+        Notice::Refused => kind(3),
+        Notice::Retry => kind(4),
+        Notice::Deregistered => kind(5),
+        Notice::Granted(grant) => {
+            let start = grant.start;
+            let length = grant.length;
+            NoticeWords {
+                kind: 6,
+                start: start.0 as u64,
+                length: length.0 as u64,
+                force: bit(grant.force),
+            }
+        }
+        Notice::Open => kind(7),
+        Notice::Close => kind(8),
+    }
+}
+
+// What a call tells: the drift, how many frames, and the four notices in order.
+pub fn told(drift: i64, frames: usize, notices: Notices) -> [u64; 18]
+    ensures { λ r. ⌜ r ≡ toldWords drift frames notices ⌝ }
+{
+    let first = notices.first;
+    let second = notices.second;
+    let third = notices.third;
+    let fourth = notices.fourth;
+    let a = notice_words(first);
+    let b = notice_words(second);
+    let c = notice_words(third);
+    let d = notice_words(fourth);
+    [
+        words::of_drift(drift),
+        frames as u64,
+        a.kind,
+        a.start,
+        a.length,
+        a.force,
+        b.kind,
+        b.start,
+        b.length,
+        b.force,
+        c.kind,
+        c.start,
+        c.length,
+        c.force,
+        d.kind,
+        d.start,
+        d.length,
+        d.force,
+    ]
+}

@@ -1,0 +1,3 @@
+-- What the C face is worth.
+pub mod RoundTrip
+pub mod Calls

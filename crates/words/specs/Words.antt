@@ -1,0 +1,19 @@
+-- What words of 64 bits stand for, and how words are laid into lent memory.
+-- Assumes nothing.
+use Prim.Native.Nat.{ℕ, _-_, _^_, min}
+use mathlib.Core.List.{List, _++_}
+use lib.IntN.{ℤ, pos, negsuc}
+use lib.ListN.{length, take, drop}
+
+-- a list over the beginning of another, as far as there is room; what stands behind it stays
+unfoldable pub laid : List ℕ → List ℕ → List ℕ
+laid from to = take (min (length from) (length to)) from ++ drop (min (length from) (length to)) to
+
+-- a number of 32 bits as it is; one that is too large as the largest
+abbrev pub narrowed : ℕ → ℕ
+narrowed w = min w 4294967295
+
+-- two's complement at 64 bits
+abbrev pub driftWord : ℤ → ℕ
+driftWord (pos n) = n
+driftWord (negsuc n) = 2 ^ 64 - 1 - n

@@ -1,0 +1,299 @@
+/* crustnewt: registration in an Ethernet passive optical network, the head (OLT) and the floor box (ONU), and their control frames.
+ *
+ * Proved code behind a plain C face. What a call does is document 01, "The build and its rules"; this header says how to call it.
+ *
+ * MEMORY. The library allocates nothing, keeps nothing between calls and calls nothing outside itself. All memory is the caller's:
+ * each call borrows it while it runs and holds no pointer afterwards. A box is a block of CRUSTNEWT_BOX_WORDS words; a head is a
+ * block of CRUSTNEWT_HEAD_WORDS words and, beside it, its table, CRUSTNEWT_LINK_WORDS words for each of 1 to 64 links. Copy the
+ * words and you have copied the box or the head. Calls on different blocks may run at the same time, in threads or in interrupts;
+ * two calls on one block may not. No pointer may be null, not even with a length of 0, and no two arguments of a call may overlap,
+ * unless both are only read (const). Words are aligned as uint64_t.
+ *
+ * LENGTHS. Every pointer is followed by the number of its elements: octets of a uint8_t *, words of a uint64_t *. Each length is
+ * judged. A block or a reply that is too short is answered CRUSTNEWT_SHORT and nothing is touched; one that is longer is fine, and
+ * what lies behind the part that is used stays as it is.
+ *
+ * NUMBERS. A call returns a number of the service card below. Any number but CRUSTNEWT_DONE is a refusal: box, head, table and
+ * output stay as they were, no frame is handed out, no notice is told, the drift is 0.
+ *
+ * A QUANTUM is 16 bit times, 16 ns at 1 Gbit/s. Call crustnewt_head_tick and crustnewt_box_tick once in each.
+ */
+#ifndef CRUSTNEWT_H
+#define CRUSTNEWT_H
+
+#include <stddef.h>
+#include <stdint.h>
+
+#ifdef __cplusplus
+extern "C" {
+#endif
+
+/* How many elements to lend. */
+#define CRUSTNEWT_FRAME_OCTETS 60
+#define CRUSTNEWT_MESSAGE_WORDS 17
+#define CRUSTNEWT_BOX_WORDS 29
+#define CRUSTNEWT_BOX_FRAMES_OCTETS 120 /* two frames */
+#define CRUSTNEWT_BOX_REPLY_WORDS 18
+#define CRUSTNEWT_HEAD_WORDS 5
+#define CRUSTNEWT_LINK_WORDS 5     /* for each link of the table */
+#define CRUSTNEWT_MOST_LINKS 64
+#define CRUSTNEWT_HEAD_REPLY_WORDS 4
+
+/* The service card. Reading tests 1, 2, 3, 4, writing only 4. A call of the box or the head tests 13, 12, 5, 6, 7, 8, 4, 9, 10, 11
+ * and last 14, each where it applies; one that hears a frame reads it first. */
+enum crustnewt_number {
+    CRUSTNEWT_DONE = 0,       /* done */
+    CRUSTNEWT_SIZE = 1,       /* the frame isn't 60 octets */
+    CRUSTNEWT_KIND = 2,       /* the type isn't 0x8808 */
+    CRUSTNEWT_OPCODE = 3,     /* the opcode isn't 2 to 6 */
+    CRUSTNEWT_RANGE = 4,      /* a field or an address is outside its range */
+    CRUSTNEWT_DIRECTION = 5,  /* the message goes the other way */
+    CRUSTNEWT_LINK = 6,       /* link number not allowed here, above the table, or idle */
+    CRUSTNEWT_STATE = 7,      /* not in this state */
+    CRUSTNEWT_PARTY = 8,      /* not this party's address */
+    CRUSTNEWT_GRANT = 9,      /* start, length or number of grants outside its range */
+    CRUSTNEWT_HELD = 10,      /* the address already holds a link */
+    CRUSTNEWT_FULL = 11,      /* every link is held */
+    CRUSTNEWT_OUTPUT = 12,    /* output shorter than 60 octets a link */
+    CRUSTNEWT_UNSOUND = 13,   /* unsound state or table: words that no call of the library leaves, or not 1 to 64 links */
+    CRUSTNEWT_WINDOW = 14,    /* a discovery window opens on a box that isn't REGISTERING */
+    CRUSTNEWT_SHORT = 100     /* not of the card: too little memory was lent, nothing was touched */
+};
+
+/* The words of a box's block. Read them as you like. Let only the library write them, but to hand in a state that was stored: words
+ * that are no sound box's are answered CRUSTNEWT_UNSOUND, a word too large for its field, an unknown state and an unknown phase
+ * among them. What the phase of the transmitter doesn't hold is not looked at. A timer is the ticks left, 0 when it is stopped. */
+enum crustnewt_box_word {
+    CRUSTNEWT_BOX_ADDRESS = 0,     /* 48 bits, the first octet on the wire highest */
+    CRUSTNEWT_BOX_COUNT = 1,       /* the 32-bit counter, in quanta */
+    CRUSTNEWT_BOX_STATE = 2,       /* enum crustnewt_box_state */
+    CRUSTNEWT_BOX_WAIT = 3,        /* wait for REGISTER */
+    CRUSTNEWT_BOX_WATCHDOG = 4,    /* omp_timer */
+    CRUSTNEWT_BOX_REPORT = 5,      /* periodic REPORT */
+    CRUSTNEWT_BOX_PORT = 6,        /* the port that a REGISTER gave, 16 bits */
+    CRUSTNEWT_BOX_SYNC = 7,        /* the sync time that a REGISTER gave, 16 bits */
+    CRUSTNEWT_BOX_LIGHT = 8,       /* the transmitter: enum crustnewt_box_light */
+    CRUSTNEWT_BOX_LIGHT_LEFT = 9,  /* its timer */
+    CRUSTNEWT_BOX_LIGHT_GRANT = 10, /* BEFORE: the random wait to come; DUE: the grant, as in the list; LIT: its length; else 0 */
+    CRUSTNEWT_BOX_LIGHT_SYNC = 11, /* BEFORE, RANDOM, DUE, LIT: the sync held; else 0 */
+    CRUSTNEWT_BOX_GRANTS = 12,     /* how many grants the list holds, 0 to 16 */
+    CRUSTNEWT_BOX_LIST = 13        /* the first of sixteen grants, in order of arrival: start in the upper 32 bits, length below */
+};
+
+enum crustnewt_box_state {
+    CRUSTNEWT_BOX_STATE_WAIT = 0,
+    CRUSTNEWT_BOX_STATE_REGISTERING = 1,
+    CRUSTNEWT_BOX_STATE_REGISTER_REQ = 2,
+    CRUSTNEWT_BOX_STATE_REGISTERED = 3
+};
+
+enum crustnewt_box_light {
+    CRUSTNEWT_BOX_LIGHT_REST = 0,
+    CRUSTNEWT_BOX_LIGHT_BEFORE = 1,  /* waits for a discovery grant's start */
+    CRUSTNEWT_BOX_LIGHT_RANDOM = 2,  /* in the random wait */
+    CRUSTNEWT_BOX_LIGHT_WARMING = 3, /* discovery: laser on */
+    CRUSTNEWT_BOX_LIGHT_ASKING = 4,  /* discovery: transmission enabled */
+    CRUSTNEWT_BOX_LIGHT_DUE = 5,     /* waits for a normal grant's start */
+    CRUSTNEWT_BOX_LIGHT_LIT = 6,     /* a normal grant: laser on */
+    CRUSTNEWT_BOX_LIGHT_OPEN = 7     /* a normal grant: transmission enabled */
+};
+
+/* The words that a call of the box tells. */
+enum crustnewt_box_reply_word {
+    CRUSTNEWT_BOX_REPLY_DRIFT = 0,  /* cast it to int64_t: how far the timestamp is from the box's count, 0 but for a message heard */
+    CRUSTNEWT_BOX_REPLY_FRAMES = 1, /* how many frames to send, 0 to 2: the first stands at octet 0 of `frames`, the second at 60 */
+    CRUSTNEWT_BOX_REPLY_NOTICES = 2 /* four notices in order, four words each: kind, and of a grant start, length, force bit */
+};
+
+enum crustnewt_box_notice {
+    CRUSTNEWT_BOX_NOTICE_NONE = 0, /* and none behind it */
+    CRUSTNEWT_BOX_NOTICE_WINDOW = 1,
+    CRUSTNEWT_BOX_NOTICE_REGISTERED = 2,
+    CRUSTNEWT_BOX_NOTICE_REFUSED = 3,
+    CRUSTNEWT_BOX_NOTICE_RETRY = 4,
+    CRUSTNEWT_BOX_NOTICE_DEREGISTERED = 5,
+    CRUSTNEWT_BOX_NOTICE_GRANT = 6,
+    CRUSTNEWT_BOX_NOTICE_OPEN = 7,
+    CRUSTNEWT_BOX_NOTICE_CLOSE = 8
+};
+
+/* The calls of the box. Each writes the frames that it hands out, and all of CRUSTNEWT_BOX_REPLY_WORDS; octets of `frames` that no
+ * frame takes stay as they were. */
+
+/* A box that has not begun: count 0, WAIT, dark, no grants. Whatever the block held is gone. An address that is zero, a group's
+ * or above 48 bits is CRUSTNEWT_RANGE, and the box then holds address zero: every later call is CRUSTNEWT_UNSOUND. */
+uint8_t crustnewt_box_fresh(uint64_t address, uint64_t *block, size_t block_words, uint8_t *frames, size_t frames_octets,
+                            uint64_t *reply, size_t reply_words);
+
+/* The client asks to register: CRUSTNEWT_STATE unless the box is in WAIT. */
+uint8_t crustnewt_box_register(uint64_t *block, size_t block_words, uint8_t *frames, size_t frames_octets, uint64_t *reply,
+                               size_t reply_words);
+
+/* The client asks to deregister: CRUSTNEWT_STATE unless the box is REGISTERED. */
+uint8_t crustnewt_box_deregister(uint64_t *block, size_t block_words, uint8_t *frames, size_t frames_octets, uint64_t *reply,
+                                 size_t reply_words);
+
+/* A frame came: its octets from the destination address on, without check sequence. `random` is any random number; it sets the
+ * random wait of a discovery GATE. */
+uint8_t crustnewt_box_hear(const uint8_t *octets, size_t octets_length, uint32_t random, uint64_t *block, size_t block_words,
+                           uint8_t *frames, size_t frames_octets, uint64_t *reply, size_t reply_words);
+
+/* One quantum has passed. */
+uint8_t crustnewt_box_tick(uint64_t *block, size_t block_words, uint8_t *frames, size_t frames_octets, uint64_t *reply,
+                           size_t reply_words);
+
+/* Which of a waiting control frame and a waiting data frame goes next: 0 neither, 1 the control frame, 2 the data frame. A length
+ * of 0 says that none waits. Only the lengths decide; it refuses nothing but a short block. */
+uint8_t crustnewt_box_next_to_send(const uint64_t *block, size_t block_words, const uint8_t *control, size_t control_octets,
+                                   const uint8_t *data, size_t data_octets);
+
+/* The words of a head's block, and of each link of its table: link 1 first, each behind the one before. As with a box, read them as
+ * you like and let only the library write them. */
+enum crustnewt_head_word {
+    CRUSTNEWT_HEAD_ADDRESS = 0,       /* 48 bits, the first octet on the wire highest */
+    CRUSTNEWT_HEAD_COUNT = 1,         /* the 32-bit counter, in quanta */
+    CRUSTNEWT_HEAD_WINDOW = 2,        /* the discovery window: enum crustnewt_head_window */
+    CRUSTNEWT_HEAD_WINDOW_LEFT = 3,   /* BEFORE, INSIDE: its timer; else 0 */
+    CRUSTNEWT_HEAD_WINDOW_LENGTH = 4  /* BEFORE: how long it will be open; else 0 */
+};
+
+enum crustnewt_head_window {
+    CRUSTNEWT_HEAD_WINDOW_IDLE = 0,
+    CRUSTNEWT_HEAD_WINDOW_BEFORE = 1,
+    CRUSTNEWT_HEAD_WINDOW_INSIDE = 2
+};
+
+enum crustnewt_link_word {
+    CRUSTNEWT_LINK_ADDRESS = 0,  /* of the box that holds it; 0 when it is idle */
+    CRUSTNEWT_LINK_STATE = 1,    /* enum crustnewt_link_state */
+    CRUSTNEWT_LINK_WAIT = 2,     /* wait for REGISTER_ACK */
+    CRUSTNEWT_LINK_WATCHDOG = 3, /* omp_timer */
+    CRUSTNEWT_LINK_PERIODIC = 4  /* periodic GATE */
+};
+
+enum crustnewt_link_state {
+    CRUSTNEWT_LINK_STATE_IDLE = 0,
+    CRUSTNEWT_LINK_STATE_WAITING = 1,
+    CRUSTNEWT_LINK_STATE_REGISTERED = 2
+};
+
+/* The words that a call of the head tells. */
+enum crustnewt_head_reply_word {
+    CRUSTNEWT_HEAD_REPLY_FRAMES = 0, /* how many frames stand in `output`, from octet 0 on, 60 octets each */
+    CRUSTNEWT_HEAD_REPLY_NOTICE = 1, /* enum crustnewt_head_notice */
+    CRUSTNEWT_HEAD_REPLY_LINK = 2,   /* the notice's link, 0 of a request */
+    CRUSTNEWT_HEAD_REPLY_TRIP = 3    /* its round trip, in quanta */
+};
+
+enum crustnewt_head_notice {
+    CRUSTNEWT_HEAD_NOTICE_NONE = 0,
+    CRUSTNEWT_HEAD_NOTICE_REQUEST = 1,
+    CRUSTNEWT_HEAD_NOTICE_REGISTERED = 2,
+    CRUSTNEWT_HEAD_NOTICE_DROPPED = 3,
+    CRUSTNEWT_HEAD_NOTICE_REPORT = 4
+};
+
+/* The calls of the head. `links` is the table: links_words / CRUSTNEWT_LINK_WORDS links, words behind the last stay as they are.
+ * `output` needs CRUSTNEWT_FRAME_OCTETS for each link; octets that no frame takes stay as they were. Each call writes all of
+ * CRUSTNEWT_HEAD_REPLY_WORDS. */
+
+/* A head that has not begun: count 0, window idle, every link idle. CRUSTNEWT_UNSOUND where not 1 to 64 links are lent, then
+ * CRUSTNEWT_RANGE for an address that is zero, a group's or above 48 bits; the head then holds address zero, the links stay as they
+ * were, and every later call is CRUSTNEWT_UNSOUND. */
+uint8_t crustnewt_head_fresh(uint64_t address, uint64_t *head, size_t head_words, uint64_t *links, size_t links_words,
+                             uint64_t *reply, size_t reply_words);
+
+/* The client opens a discovery window: where the grant starts, its length, the sync time, how long the window is open. */
+uint8_t crustnewt_head_open(uint32_t start, uint32_t length, uint32_t sync, uint32_t window, uint64_t *head, size_t head_words,
+                            uint64_t *links, size_t links_words, uint8_t *output, size_t output_octets, uint64_t *reply,
+                            size_t reply_words);
+
+/* The client admits a box that asked: it takes the lowest idle link. */
+uint8_t crustnewt_head_admit(uint64_t address, uint8_t pending, uint32_t sync, uint64_t *head, size_t head_words, uint64_t *links,
+                             size_t links_words, uint8_t *output, size_t output_octets, uint64_t *reply, size_t reply_words);
+
+/* The client rejects a box that asked. */
+uint8_t crustnewt_head_reject(uint64_t address, uint8_t pending, uint32_t sync, uint64_t *head, size_t head_words,
+                              uint64_t *links, size_t links_words, uint8_t *output, size_t output_octets, uint64_t *reply,
+                              size_t reply_words);
+
+/* The client has a registered box register anew. Links are numbered from 1. */
+uint8_t crustnewt_head_reregister(size_t link, uint32_t sync, uint64_t *head, size_t head_words, uint64_t *links,
+                                  size_t links_words, uint8_t *output, size_t output_octets, uint64_t *reply, size_t reply_words);
+
+/* The client drops a registered box. */
+uint8_t crustnewt_head_deregister(size_t link, uint64_t *head, size_t head_words, uint64_t *links, size_t links_words,
+                                  uint8_t *output, size_t output_octets, uint64_t *reply, size_t reply_words);
+
+/* The client sends a GATE of 0 to 4 grants, each a word: the start in the upper 32 bits, the length below. Bit 0 of `force` is the
+ * first grant's force bit. */
+uint8_t crustnewt_head_gate(size_t link, const uint64_t *grants, size_t grants_words, uint8_t force, uint64_t *head,
+                            size_t head_words, uint64_t *links, size_t links_words, uint8_t *output, size_t output_octets,
+                            uint64_t *reply, size_t reply_words);
+
+/* A frame came on a link: its octets from the destination address on, without check sequence. A box that asks to register comes on
+ * link 0. */
+uint8_t crustnewt_head_hear(size_t link, const uint8_t *octets, size_t octets_length, uint64_t *head, size_t head_words,
+                            uint64_t *links, size_t links_words, uint8_t *output, size_t output_octets, uint64_t *reply,
+                            size_t reply_words);
+
+/* One quantum has passed. */
+uint8_t crustnewt_head_tick(uint64_t *head, size_t head_words, uint64_t *links, size_t links_words, uint8_t *output,
+                            size_t output_octets, uint64_t *reply, size_t reply_words);
+
+/* Frames by themselves. */
+
+/* The words of a message. From CRUSTNEWT_MESSAGE_BODY on:
+ *   GATE          how many grants, then start, length, force bit of each
+ *   DISCOVERY     sync time, then start, length, force bit of its grant
+ *   REPORT        nothing
+ *   REGISTER_REQ  flag, pending
+ *   REGISTER      flag, port, sync time, pending
+ *   REGISTER_ACK  flag, port, sync time
+ * with the flags by their numbers on the wire. What a message doesn't hold is 0. */
+enum crustnewt_message_word {
+    CRUSTNEWT_MESSAGE_DESTINATION = 0,
+    CRUSTNEWT_MESSAGE_SOURCE = 1,
+    CRUSTNEWT_MESSAGE_TIMESTAMP = 2,
+    CRUSTNEWT_MESSAGE_KIND = 3,
+    CRUSTNEWT_MESSAGE_BODY = 4
+};
+
+enum crustnewt_message_kind {
+    CRUSTNEWT_MESSAGE_GATE = 0,
+    CRUSTNEWT_MESSAGE_DISCOVERY = 1,
+    CRUSTNEWT_MESSAGE_REPORT = 2,
+    CRUSTNEWT_MESSAGE_REGISTER_REQ = 3,
+    CRUSTNEWT_MESSAGE_REGISTER = 4,
+    CRUSTNEWT_MESSAGE_REGISTER_ACK = 5
+};
+
+/* A frame's octets read into the words of a message; CRUSTNEWT_SIZE, _KIND, _OPCODE or _RANGE where they are none, and the words
+ * are then those of an empty REPORT with every field 0. */
+uint8_t crustnewt_read(const uint8_t *octets, size_t octets_length, uint64_t *message, size_t message_words);
+
+/* The words of a message written into the first CRUSTNEWT_FRAME_OCTETS octets; CRUSTNEWT_RANGE, and those octets zero, where a word is
+ * no field's or a field is outside its range. */
+uint8_t crustnewt_write(const uint64_t *message, size_t message_words, uint8_t *octets, size_t octets_length);
+
+/* A worked example, in short; examples/pair.c registers a box with a head:
+ *
+ *   uint64_t box[CRUSTNEWT_BOX_WORDS], reply[CRUSTNEWT_BOX_REPLY_WORDS];
+ *   uint8_t frames[CRUSTNEWT_BOX_FRAMES_OCTETS];
+ *
+ *   crustnewt_box_fresh(0x020000000031, box, CRUSTNEWT_BOX_WORDS, frames, sizeof frames, reply, CRUSTNEWT_BOX_REPLY_WORDS);
+ *   crustnewt_box_register(box, CRUSTNEWT_BOX_WORDS, frames, sizeof frames, reply, CRUSTNEWT_BOX_REPLY_WORDS);
+ *   for (;;) {                                                     // once a quantum
+ *       if (crustnewt_box_tick(box, CRUSTNEWT_BOX_WORDS, frames, sizeof frames, reply, CRUSTNEWT_BOX_REPLY_WORDS) != CRUSTNEWT_DONE)
+ *           break;
+ *       for (uint64_t i = 0; i < reply[CRUSTNEWT_BOX_REPLY_FRAMES]; i++)
+ *           queue_control_frame(frames + i * CRUSTNEWT_FRAME_OCTETS);
+ *       laser(box[CRUSTNEWT_BOX_LIGHT] == CRUSTNEWT_BOX_LIGHT_WARMING || ...);
+ *   }
+ */
+
+#ifdef __cplusplus
+}
+#endif
+
+#endif
