@@ -1,11 +1,21 @@
-// A message as words of 64 bits.
+// A message as words of 64 bits, and the message that words tell.
 ghost use mathlib.Core.Path.{_≡_};
 ghost use mathlib.Core.Bool.{cond};
 ghost use Rattle.framewords.specs.Message.{grantWords, noGrant, fieldWords, gateWords, grantsWords, bodyWords, messageWords};
+ghost use Rattle.framewords.specs.Tells.{octetOf, shortOf, countOf, quantaOf, grantOf, grantsOf, registerReqFlagOf, registerFlagOf, registerAckFlagOf, gateOf, bodyOf, messageOf, same, isMessage};
+use clock::Count;
+use clock::Quanta;
+use frame::Address;
 use frame::Body;
 use frame::Grant;
 use frame::Grants;
 use frame::Message;
+use frame::RegisterAckFlag;
+use frame::RegisterFlag;
+use frame::RegisterReqFlag;
+
+// Words of a message.
+const MESSAGE: usize = 17;
 
 pub struct GrantWords {
     pub start: u64,
@@ -151,4 +161,176 @@ pub fn message_words(message: Message) -> [u64; 17]
     w[2] = timestamp.0 as u64;
     words::lay(&fields, &mut w[3..]);
     w
+}
+
+// A word too large for its field is taken as the field's largest, which has another word.
+fn octet_of(word: u64) -> u8
+    ensures { λ r. ⌜ r ≡ octetOf word ⌝ }
+{
+    if word < 255 {
+        return word as u8;
+    }
+    255
+}
+
+fn short_of(word: u64) -> u16
+    ensures { λ r. ⌜ r ≡ shortOf word ⌝ }
+{
+    if word < 65535 {
+        return word as u16;
+    }
+    65535
+}
+
+fn count_of(word: u64) -> Count
+    ensures { λ r. ⌜ r ≡ countOf word ⌝ }
+{
+    Count(words::narrow(word))
+}
+
+fn quanta_of(word: u64) -> Quanta
+    ensures { λ r. ⌜ r ≡ quantaOf word ⌝ }
+{
+    Quanta(words::narrow(word))
+}
+
+fn grant_of(start: u64, length: u64, force: u64) -> Grant
+    ensures { λ r. ⌜ r ≡ grantOf start length force ⌝ }
+{
+    Grant {
+        start: count_of(start),
+        length: quanta_of(length),
+        force: force == 1,
+    }
+}
+
+// As many grants as are told, at most four.
+fn grants_of(number: u64, a: Grant, b: Grant, c: Grant, d: Grant) -> Grants
+    ensures { λ r. ⌜ r ≡ grantsOf number a b c d ⌝ }
+{
+    if number == 0 {
+        return Grants::None;
+    }
+    if number == 1 {
+        return Grants::One(a);
+    }
+    if number == 2 {
+        return Grants::Two(a, b);
+    }
+    if number == 3 {
+        return Grants::Three(a, b, c);
+    }
+    Grants::Four(a, b, c, d)
+}
+
+fn register_req_flag_of(word: u64) -> RegisterReqFlag
+    ensures { λ r. ⌜ r ≡ registerReqFlagOf word ⌝ }
+{
+    if word == 1 {
+        return RegisterReqFlag::Register;
+    }
+    RegisterReqFlag::Deregister
+}
+
+fn register_flag_of(word: u64) -> RegisterFlag
+    ensures { λ r. ⌜ r ≡ registerFlagOf word ⌝ }
+{
+    if word == 1 {
+        return RegisterFlag::Reregister;
+    }
+    if word == 2 {
+        return RegisterFlag::Deregister;
+    }
+    if word == 3 {
+        return RegisterFlag::Ack;
+    }
+    RegisterFlag::Nack
+}
+
+fn register_ack_flag_of(word: u64) -> RegisterAckFlag
+    ensures { λ r. ⌜ r ≡ registerAckFlagOf word ⌝ }
+{
+    if word == 0 {
+        return RegisterAckFlag::Nack;
+    }
+    RegisterAckFlag::Ack
+}
+
+fn gate_of(w: [u64; 17]) -> Grants
+    ensures { λ r. ⌜ r ≡ gateOf w ⌝ }
+{
+    let a = grant_of(w[5], w[6], w[7]);
+    let b = grant_of(w[8], w[9], w[10]);
+    let c = grant_of(w[11], w[12], w[13]);
+    let d = grant_of(w[14], w[15], w[16]);
+    grants_of(w[4], a, b, c, d)
+}
+
+fn body_of(w: [u64; 17]) -> Body
+    ensures { λ r. ⌜ r ≡ bodyOf w ⌝ }
+{
+    let kind = w[3];
+    if kind == 0 {
+        return Body::Gate(gate_of(w));
+    }
+    if kind == 1 {
+        return Body::Discovery {
+            grant: grant_of(w[5], w[6], w[7]),
+            sync: quanta_of(w[4]),
+        };
+    }
+    if kind == 2 {
+        return Body::Report;
+    }
+    if kind == 3 {
+        return Body::RegisterReq {
+            flag: register_req_flag_of(w[4]),
+            pending: octet_of(w[5]),
+        };
+    }
+    if kind == 4 {
+        return Body::Register {
+            port: short_of(w[5]),
+            flag: register_flag_of(w[4]),
+            sync: quanta_of(w[6]),
+            pending: octet_of(w[7]),
+        };
+    }
+    Body::RegisterAck {
+        flag: register_ack_flag_of(w[4]),
+        port: short_of(w[5]),
+        sync: quanta_of(w[6]),
+    }
+}
+
+// Some message, whatever the words; whether they are its own, `is_message` says.
+pub fn message_of(w: [u64; 17]) -> Message
+    ensures { λ r. ⌜ r ≡ messageOf w ⌝ }
+{
+    Message {
+        destination: Address(w[0]),
+        source: Address(w[1]),
+        timestamp: count_of(w[2]),
+        body: body_of(w),
+    }
+}
+
+fn same(a: [u64; 17], b: [u64; 17]) -> bool
+    ensures { λ r. ⌜ r ≡ same a b ⌝ }
+{
+    let mut i = 0;
+    while i < MESSAGE {
+        if a[i] != b[i] {
+            return false;
+        }
+        i += 1;
+    }
+    true
+}
+
+// Whether a message has just these words.
+pub fn is_message(w: [u64; 17]) -> bool
+    ensures { λ r. ⌜ r ≡ isMessage w ⌝ }
+{
+    same(message_words(message_of(w)), w)
 }
