@@ -1,9 +1,10 @@
 // The C face: the caller keeps a box as words in a block, and lends what a call hands out.
 ghost use mathlib.Core.Path.{_≡_};
 ghost use Prim.Native.Nat.{_≤_};
-ghost use lib.ListN.{length};
+ghost use lib.ListN.{length, take};
 ghost use Rattle.crustnewt.specs.Calls.{told, left, boxAt, isLent, heardOf, laidOne, laidBoth, laidFrames, toldOf, handed, settled, freshCall, boxCall, nextCall};
 ghost use Rattle.crustnewt.specs.Read.{readLeft, readCall};
+ghost use Rattle.crustnewt.specs.Write.{writeLeft, hasRoom, writingOf, writeCall};
 ghost use Rattle.boxwords.specs.Box.{boxWords};
 ghost use Rattle.words.specs.Words.{laid};
 ghost use Rattle.floorbox.specs.Answer.{refused};
@@ -12,6 +13,7 @@ use floorbox::Answer;
 use floorbox::FloorBox;
 use frame::Address;
 use frame::Reply;
+use frame::Writing;
 use telling::Frames;
 use telling::Notices;
 
@@ -25,8 +27,10 @@ const FRAMES: usize = 120;
 
 const REPLY: usize = 18;
 
-// Words of a message.
+// Words of a message, octets of its frame.
 const MESSAGE: usize = 17;
+
+const FRAME: usize = 60;
 
 // The box in a block; words that a short block lacks are 0.
 fn load(block: &[u64]) -> FloorBox
@@ -257,4 +261,47 @@ pub extern "C" fn crustnewt_read(octets: &[u8], message: &mut [u64]) -> u8
     let told = framewords::message_words(read);
     words::lay(&told, message);
     reply.number()
+}
+
+fn has_room(message: usize, octets: usize) -> bool
+    ensures { λ r. ⌜ r ≡ hasRoom message octets ⌝ }
+{
+    (MESSAGE <= message) & (FRAME <= octets)
+}
+
+fn first_words(message: &[u64]) -> [u64; 17]
+    requires { ⌜ 17 ≤ length (now message) ⌝ }
+    ensures { λ r. ⌜ r ≡ take 17 (now (message .entry)) ⌝ }
+{
+    let mut words = [0u64; 17];
+    words::lay(message, &mut words);
+    words
+}
+
+// Words that are no message's are refused as a field out of range is.
+fn writing_of(words: [u64; 17]) -> Writing
+    ensures { λ r. ⌜ r ≡ writingOf words ⌝ }
+{
+    if framewords::is_message(words) {
+        return writer::write(framewords::message_of(words));
+    }
+    Writing {
+        reply: Reply::Range,
+        octets: [0u8; 60],
+    }
+}
+
+// The words of a message, written into the octets of its frame; on a refusal they are zero.
+#[no_mangle]
+pub extern "C" fn crustnewt_write(message: &[u64], octets: &mut [u8]) -> u8
+    ensures { λ r. ⌜ writeLeft r (now (octets .exit)) ≡ writeCall (now (message .entry)) (now (octets .entry)) ⌝ }
+{
+    if has_room(message.len(), octets.len()) {
+        let writing = writing_of(first_words(message));
+        let reply = writing.reply;
+        let frame = writing.octets;
+        bytes::copy(&frame, octets);
+        return reply.number();
+    }
+    SHORT
 }
