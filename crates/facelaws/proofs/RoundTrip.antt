@@ -56,13 +56,13 @@ pub record Fits (b : FloorBox) : Type 0 where
   pub entries : EntriesFit (b .processes .list .entries)
   pub light : LightFits (b .processes .light)
 
-narrow-is : (n : ℕ) → n < 2 ^ 32 → narrowed n ≡ n
+pub narrow-is : (n : ℕ) → n < 2 ^ 32 → narrowed n ≡ n
 narrow-is n h = omega arith
 
 timer-back : (t : Timer) → TimerFits t → timerOf (t .left) ≡ t
 timer-back t h = rw (narrow-is (t .left) h)
 
-quanta-back : (q : Quanta) → QuantaFit q → quantaOf (q .0) ≡ q
+pub quanta-back : (q : Quanta) → QuantaFit q → quantaOf (q .0) ≡ q
 quanta-back q h = rw (narrow-is (q .0) h)
 
 upper : (a b : ℕ) → b < 2 ^ 32 → (a * 2 ^ 32 + b) / 2 ^ 32 ≡ a

@@ -2,15 +2,14 @@
 -- writing of it. Words that the face takes for a message's are some message's.
 -- Assumes nothing.
 use Prim.Native.Nat.{ℕ, _^_, _≤_, _<_}
-use mathlib.Core.Path.{_≡_, refl, sym, ap, _∙_}
-use mathlib.Core.Bool.{Bool, true, false, cond, _&&_, and-eq-true-iff, true≢false}
+use mathlib.Core.Path.{_≡_, refl, sym}
+use mathlib.Core.Bool.{Bool, true, false, cond, and-eq-true-iff, true≢false}
 use mathlib.Core.List.{List, [], _∷_, _++_}
 use native.Mathlib.Omega.{arith}
 use borrow.Author.Tests.{le-leb, eq-eqb, eqb-true}
 use lib.Dec.{eqb}
 use lib.ListN.{length, length-append}
 use lib.Seq.{take-at}
-use Rattle.clock.specs.declared.Quanta.{Quanta}
 use Rattle.frame.specs.Layout.{listed, registerReqFlag, registerFlag, registerAckFlag}
 use Rattle.frame.specs.declared.Body.{Body}
 use Rattle.frame.specs.declared.Body.the-variants.{Gate, Discovery, Report, RegisterReq, Register, RegisterAck}
@@ -25,13 +24,12 @@ use Rattle.frame.specs.declared.RegisterFlag.the-variants as answer
 use Rattle.frame.specs.declared.RegisterReqFlag.{RegisterReqFlag}
 use Rattle.frame.specs.declared.RegisterReqFlag.the-variants as request
 use Rattle.framewords.specs.Message.{bodyWords, messageWords}
-use Rattle.framewords.specs.Tells.{octetOf, shortOf, quantaOf, grantOf, grantsOf, registerReqFlagOf, registerFlagOf, registerAckFlagOf, gateOf, bodyOf, messageOf, same, isMessage}
+use Rattle.framewords.specs.Tells.{octetOf, shortOf, grantOf, grantsOf, registerReqFlagOf, registerFlagOf, registerAckFlagOf, at, gateOf, bodyOf, messageOf, same, isMessage}
+use Rattle.laws.specs.Cases.{either}
 use Rattle.words.specs.Words.{narrowed}
 use Rattle.writer.specs.Write.{writeOf}
 use Rattle.crustnewt.specs.Write.{hasRoom, writingOf, written, writeCall}
-
-abbrev pub QuantaFit : Quanta → Type 0
-QuantaFit q = q .0 < 2 ^ 32
+use Rattle.facelaws.proofs.RoundTrip.{QuantaFit, narrow-is, quanta-back}
 
 abbrev pub GrantFits : Grant → Type 0
 GrantFits g = (g .start .0 < 2 ^ 32) × QuantaFit (g .length)
@@ -53,17 +51,11 @@ pub record Fits (m : Message) : Type 0 where
   pub timestamp : m .timestamp .0 < 2 ^ 32
   pub body : BodyFits (m .body)
 
-narrow-is : (n : ℕ) → n < 2 ^ 32 → narrowed n ≡ n
-narrow-is n h = omega arith
-
 octet-is : (n : ℕ) → n < 2 ^ 8 → octetOf n ≡ n
 octet-is n h = omega arith
 
 short-is : (n : ℕ) → n < 2 ^ 16 → shortOf n ≡ n
 short-is n h = omega arith
-
-quanta-back : (q : Quanta) → QuantaFit q → quantaOf (q .0) ≡ q
-quanta-back q h = rw (narrow-is (q .0) h)
 
 bit-back : (t : Bool) → eqb (cond t 1 0) 1 ≡ t
 bit-back true = refl
@@ -130,10 +122,45 @@ pub is-message : (m : Message) → Fits m → isMessage (messageWords m) ≡ tru
 unfolding isMessage
 is-message m h = rw (told m h) (same-refl (messageWords m))
 
+narrow-fits : (n : ℕ) → narrowed n < 2 ^ 32
+narrow-fits n = omega arith
+
+grant-fits : (start length force : ℕ) → GrantFits (grantOf start length force)
+grant-fits start length force = (narrow-fits start, narrow-fits length)
+
+grants-fit : (n : ℕ) (a b c d : Grant) → GrantFits a → GrantFits b → GrantFits c → GrantFits d
+    → GrantsFit (listed (grantsOf n a b c d))
+unfolding grantsOf
+grants-fit n a b c d ha hb hc hd =
+    let P : Grants → Type 0 = λ g. GrantsFit (listed g) in
+    either P (eqb n 0) _ _ (λ _. tt)
+    (λ _. either P (eqb n 1) _ _ (λ _. (ha, tt))
+    (λ _. either P (eqb n 2) _ _ (λ _. (ha, (hb, tt)))
+    (λ _. either P (eqb n 3) _ _ (λ _. (ha, (hb, (hc, tt)))) (λ _. (ha, (hb, (hc, (hd, tt))))))))
+
+gate-fits : (w : List ℕ) → GrantsFit (listed (gateOf w))
+unfolding gateOf
+gate-fits w =
+    grants-fit (at w 4) _ _ _ _
+    (grant-fits (at w 5) (at w 6) (at w 7))
+    (grant-fits (at w 8) (at w 9) (at w 10))
+    (grant-fits (at w 11) (at w 12) (at w 13))
+    (grant-fits (at w 14) (at w 15) (at w 16))
+
+body-fits : (w : List ℕ) → BodyFits (bodyOf w)
+unfolding bodyOf
+body-fits w =
+    either BodyFits (eqb (at w 3) 0) _ _ (λ _. gate-fits w)
+    (λ _. either BodyFits (eqb (at w 3) 1) _ _ (λ _. (grant-fits (at w 5) (at w 6) (at w 7), narrow-fits (at w 4)))
+    (λ _. either BodyFits (eqb (at w 3) 2) _ _ (λ _. tt)
+    (λ _. either BodyFits (eqb (at w 3) 3) _ _ (λ _. omega arith)
+    (λ _. either BodyFits (eqb (at w 3) 4) _ _ (λ _. (omega arith, narrow-fits (at w 6), omega arith))
+    (λ _. (omega arith, narrow-fits (at w 6)))))))
+
 -- and no other words are
-pub only-messages : (w : List ℕ) → isMessage w ≡ true → messageWords (messageOf w) ≡ w
-unfolding isMessage
-only-messages w h = same-is (messageWords (messageOf w)) w h
+pub only-messages : (w : List ℕ) → isMessage w ≡ true → Fits (messageOf w) × (messageWords (messageOf w) ≡ w)
+unfolding isMessage messageOf
+only-messages w h = (record { timestamp = narrow-fits (at w 2); body = body-fits w }, same-is (messageWords (messageOf w)) w h)
 
 body-size : (x y z : ℕ) (b : Body) → length (x ∷ y ∷ z ∷ bodyWords b) ≡ 17
 body-size x y z (Gate None) = refl
