@@ -78,33 +78,25 @@ impl Notices {
         if first.is_nothing() {
             return Notices {
                 first: notice,
-                second,
-                third,
-                fourth,
+                ..self
             };
         }
         if second.is_nothing() {
             return Notices {
-                first,
                 second: notice,
-                third,
-                fourth,
+                ..self
             };
         }
         if third.is_nothing() {
             return Notices {
-                first,
-                second,
                 third: notice,
-                fourth,
+                ..self
             };
         }
         if fourth.is_nothing() {
             return Notices {
-                first,
-                second,
-                third,
                 fourth: notice,
+                ..self
             };
         }
         self
