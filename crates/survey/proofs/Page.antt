@@ -15,7 +15,7 @@ use Rattle.links.specs.Link.{idle, isHeld}
 use Rattle.links.specs.Sound.{soundOf}
 use Rattle.links.specs.declared.Link.{Link}
 use Rattle.survey.specs.Facts.{isFew, holds, anyHolds, allSound, different, soundTable, idleFrom, linkFrom, factsOf}
-use Rattle.survey.specs.Pass.{turnsOf, begun, metOf, repeatsOf, spanOf, soundStill, heldStill, idleStill, linkStill, seenOf, passed}
+use Rattle.survey.specs.Pass.{turnsOf, begun, metOf, repeatsOf, twiceOf, soundStill, heldStill, idleStill, linkStill, passed}
 use Rattle.survey.specs.declared.Look.{Look}
 use Rattle.survey.specs.declared.Facts.{Facts}
 
@@ -79,18 +79,9 @@ met-any a k [] true = refl
 met-any a k [] false = refl
 met-any a k (x ∷ xs) met = met-any a (suc k) xs (met || holds a x) ∙ or-assoc met (holds a x) (anyHolds a xs)
 
--- a held link whose address one of the first i holds
-repeats-is : (xs : List Link) (l : Link) (i : ℕ) → repeatsOf xs (spanOf l i) (l .address) ≡ (isHeld (l .state) && anyHolds (l .address) (take i xs))
-unfolding repeatsOf spanOf
-repeats-is xs l i = met-any (l .address) 1 (take (cond (isHeld (l .state)) i 0) xs) false ∙ by-test (isHeld (l .state))
-  where
-    none : (xs : List Link) → anyHolds (l .address) (take 0 xs) ≡ false
-    none [] = refl
-    none (x ∷ xs) = refl
-
-    by-test : (t : Bool) → anyHolds (l .address) (take (cond t i 0) xs) ≡ (t && anyHolds (l .address) (take i xs))
-    by-test true = refl
-    by-test false = none xs
+pub repeats-is : (xs : List Link) (n : ℕ) (a : Address) → repeatsOf xs n a ≡ anyHolds a (take n xs)
+unfolding repeatsOf
+repeats-is xs n a = met-any a 1 (take n xs) false
 
 -- none of xs is held at an address that one of pre holds
 apart : List Link → List Link → Bool
@@ -122,7 +113,7 @@ apart-more pre x (y ∷ ys) =
 -- ---- each fact by itself
 soundRun : List Link → ℕ → List Link → Bool → Bool
 soundRun zs k [] s = s
-soundRun zs k (x ∷ xs) s = soundRun zs (suc k) xs (soundStill s x (repeatsOf zs (spanOf x (k - 1)) (x .address)))
+soundRun zs k (x ∷ xs) s = soundRun zs (suc k) xs (soundStill s x (twiceOf zs x (k - 1)))
 
 heldRun : Address → List Link → Bool → Bool
 heldRun a [] h = h
@@ -207,10 +198,12 @@ sound-is pre (x ∷ xs) s =
     met : Bool
     met = isHeld (x .state) && anyHolds (x .address) pre
 
-    seen : repeatsOf (pre ++ (x ∷ xs)) (spanOf x (suc (length pre) - 1)) (x .address) ≡ met
+    before : suc (length pre) - 1 ≡ length pre
+    before = omega arith
+
+    seen : twiceOf (pre ++ (x ∷ xs)) x (suc (length pre) - 1) ≡ met
     seen =
-        ap (λ (i : ℕ). repeatsOf (pre ++ (x ∷ xs)) (spanOf x i) (x .address)) (omega arith)
-        ∙ repeats-is (pre ++ (x ∷ xs)) x (length pre)
+        ap (λ (i : ℕ). twiceOf (pre ++ (x ∷ xs)) x i) before
         ∙ ap (λ (t : List Link). isHeld (x .state) && anyHolds (x .address) t) (take-append-seam pre (x ∷ xs))
 
     longer : suc (length pre) ≡ length (pre ++ (x ∷ []))
@@ -239,14 +232,6 @@ passed-all xs look = by-test (isFew (length xs)) refl
         none : (ys : List Link) → each (passed xs look) 1 (take 0 ys) (record { sound = false; held = false; idle = 0; link = idle }) ≡ record { sound = false; held = false; idle = 0; link = idle }
         none [] = refl
         none (y ∷ ys) = refl
-
-pub span-le : (l : Link) (i : ℕ) → spanOf l i ≤ i
-unfolding spanOf
-span-le l i = by-test (isHeld (l .state))
-  where
-    by-test : (t : Bool) → cond t i 0 ≤ i
-    by-test true = omega arith
-    by-test false = omega arith
 
 pub turns-le : (n : ℕ) → turnsOf n ≤ n
 unfolding turnsOf

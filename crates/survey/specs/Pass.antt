@@ -1,16 +1,16 @@
--- The pass over the table as the code does it, link by link; `proofs/Page.antt` shows that it finds what `Facts` says.
+-- The pass over the table as the code does it, link by link; `proofs/Page.antt` shows that it finds what `Facts` says, and `proofs/Marks.antt` that the marks hide no address that is held twice.
 -- Assumes nothing.
-use Prim.Native.Nat.{ℕ, _-_}
-use mathlib.Core.Bool.{Bool, true, false, cond, not, _&&_, _||_}
+use Prim.Native.Nat.{ℕ, _-_, _%_}
+use mathlib.Core.Bool.{Bool, false, cond, not, _&&_, _||_}
 use mathlib.Core.List.{List}
 use lib.Dec.{eqb}
-use lib.ListN.{length, take}
+use lib.ListN.{getD, set, take, replicate}
 use Rattle.frame.specs.declared.Address.{Address}
 use Rattle.lent.specs.Folds.{each}
 use Rattle.links.specs.Link.{idle, isHeld}
 use Rattle.links.specs.Sound.{soundOf}
 use Rattle.links.specs.declared.Link.{Link}
-use Rattle.survey.specs.Facts.{isFew, holds}
+use Rattle.survey.specs.Facts.{isFew, holds, anyHolds}
 use Rattle.survey.specs.declared.Look.{Look}
 use Rattle.survey.specs.declared.Facts.{Facts}
 
@@ -28,9 +28,28 @@ metOf a l met = met || holds a l
 unfoldable pub repeatsOf : List Link → ℕ → Address → Bool
 repeatsOf xs n a = each (λ k l met. metOf a l met) 1 (take n xs) false
 
+-- where the mark of an address stands, of 251
+unfoldable pub placeOf : Address → ℕ
+placeOf a = a .0 % 251
+
+-- no link has left its mark
+unfoldable pub unmarked : List ℕ
+unmarked = replicate 251 0
+
+unfoldable pub isMarked : List ℕ → Address → Bool
+isMarked ms a = eqb (getD ms (placeOf a) 0) 1
+
+-- a held link leaves the mark of its address
+unfoldable pub markOf : Link → List ℕ → List ℕ
+markOf l ms = cond (isHeld (l .state)) (set ms (placeOf (l .address)) 1) ms
+
 -- how many links stand before it that could hold its address
-unfoldable pub spanOf : Link → ℕ → ℕ
-spanOf l i = cond (isHeld (l .state)) i 0
+unfoldable pub spanOf : List ℕ → Link → ℕ → ℕ
+spanOf ms l i = cond (isHeld (l .state) && isMarked ms (l .address)) i 0
+
+-- a held link whose address one of the first i holds
+abbrev pub twiceOf : List Link → Link → ℕ → Bool
+twiceOf xs l i = isHeld (l .state) && anyHolds (l .address) (take i xs)
 
 abbrev pub soundStill : Bool → Link → Bool → Bool
 soundStill sound l twice = sound && soundOf l && not twice
@@ -55,4 +74,4 @@ seenOf f l number twice k =
 
 -- what is known after the link of that number
 abbrev pub passed : List Link → Look → ℕ → Link → Facts → Facts
-passed xs k number l f = seenOf f l number (repeatsOf xs (spanOf l (number - 1)) (l .address)) k
+passed xs k number l f = seenOf f l number (twiceOf xs l (number - 1)) k

@@ -3,7 +3,7 @@ ghost use mathlib.Core.Path.{_≡_};
 ghost use Prim.Native.Nat.{_≤_};
 ghost use lib.ListN.{length};
 ghost use Rattle.survey.specs.Facts.{isFew, holds, factsOf};
-ghost use Rattle.survey.specs.Pass.{turnsOf, begun, spanOf, metOf, repeatsOf, soundStill, heldStill, idleStill, linkStill, seenOf};
+ghost use Rattle.survey.specs.Pass.{turnsOf, begun, placeOf, spanOf, markOf, metOf, repeatsOf, soundStill, heldStill, idleStill, linkStill, seenOf};
 use frame::Address;
 use links::Link;
 
@@ -76,12 +76,29 @@ fn repeats(links: &[Link], n: usize, address: Address) -> bool
     met
 }
 
-// How many links stand before it that could hold its address: none before one that holds nothing.
-fn span(l: Link, i: usize) -> usize
-    ensures { λ r. ⌜ r ≡ spanOf l i ⌝ }
+// A prime: addresses at equal distances, as boxes of one building often have, stand at places of their own unless it divides the distance.
+const PLACES: usize = 251;
+
+// Where the mark of its address stands.
+fn place(l: Link) -> usize
+    ensures { λ r. ⌜ r ≡ placeOf (l .address) ⌝ }
+{
+    let own = l.address;
+    own.0 as usize % PLACES
+}
+
+// How many links stand before it that could hold its address: none before one that holds nothing, and none where no mark stands at its place. A held link leaves a mark there.
+fn span(marks: &mut [u8], l: Link, i: usize) -> usize
+    requires { ⌜ length (now marks) ≡ 251 ⌝ }
+    ensures { λ r. ⌜ (r ≡ spanOf (now (marks .entry)) l i) × (now (marks .exit) ≡ markOf l (now (marks .entry))) ⌝ }
 {
     if l.is_held() {
-        return i;
+        let k = place(l);
+        let met = marks[k];
+        marks[k] = 1;
+        if met == 1 {
+            return i;
+        }
     }
     0
 }
@@ -140,10 +157,17 @@ pub fn survey(links: &[Link], look: Look) -> Facts
 {
     let n = turns(links.len());
     let mut f = begin(links.len());
+    let mut marks = [0u8; PLACES];
     let mut i = 0;
     while i < n {
         let l = links[i];
-        f = seen(f, l, i + 1, repeats(links, span(l, i), address_of(l)), look);
+        f = seen(
+            f,
+            l,
+            i + 1,
+            repeats(links, span(&mut marks, l, i), address_of(l)),
+            look,
+        );
         i += 1;
     }
     f
