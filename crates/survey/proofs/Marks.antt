@@ -34,7 +34,7 @@ unfolding markOf
 mark-length l ms = by-test (isHeld (l .state))
   where
     by-test : (t : Bool) → length (cond t (set ms (placeOf (l .address)) 1) ms) ≡ length ms
-    by-test true = length-set ms (placeOf (l .address)) 1
+    by-test true = length-set ms (placeOf (l .address)) _
     by-test false = refl
 
 -- a mark that is left at the place of an address is one of that address, and the others stay
