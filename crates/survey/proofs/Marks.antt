@@ -31,11 +31,11 @@ place-lt a = omega arith
 
 mark-length : (l : Link) (ms : List ℕ) → length (markOf l ms) ≡ length ms
 unfolding markOf
-mark-length l ms = by-test (isHeld (l .state))
+mark-length l ms = by-test (isHeld (l .state)) _
   where
-    by-test : (t : Bool) → length (cond t (set ms (placeOf (l .address)) 1) ms) ≡ length ms
-    by-test true = length-set ms (placeOf (l .address)) _
-    by-test false = refl
+    by-test : (t : Bool) (mark : ℕ) → length (cond t (set ms (placeOf (l .address)) mark) ms) ≡ length ms
+    by-test true mark = length-set ms (placeOf (l .address)) mark
+    by-test false mark = refl
 
 -- a mark that is left at the place of an address is one of that address, and the others stay
 own-mark : (ms : List ℕ) (a : Address) → length ms ≡ 251 → isMarked (set ms (placeOf a) 1) a ≡ true
