@@ -1,12 +1,11 @@
 -- `crustnewt::crustnewt_write` meets its promise.
 -- Assumes nothing.
-use Prim.Native.Nat.{ℕ, _≤_}
+use Prim.Native.Nat.{ℕ}
 use mathlib.Core.List.{List, _++_}
 use mathlib.Core.Path.{_≡_, sym, _∙_}
 use borrow.Author.Needs.{needs}
 use lib.ListN.{length, take, drop}
 use lib.Seq.{take-length}
-use native.Mathlib.Omega.{arith}
 use Rattle.crustnewt.specs.Write.{writeCall}
 use Rattle.crustnewt.proofs.Room.{room}
 use Rattle.crustnewt.proofs.crustnewt_write.Statement.{statement}
