@@ -1,0 +1,58 @@
+-- A head as words of 64 bits: which word holds what, and what head any words tell.
+-- Assumes nothing.
+use Prim.Native.Nat.{ℕ}
+use mathlib.Core.Bool.{cond}
+use mathlib.Core.List.{List, [], _∷_}
+use lib.Dec.{eqb, ltb}
+use lib.ListN.{getD}
+use Rattle.clock.specs.declared.Quanta.{Quanta}
+use Rattle.clock.specs.declared.Timer.{Timer}
+use Rattle.frame.specs.declared.Address.{Address}
+use Rattle.head.specs.declared.Head.{Head}
+use Rattle.head.specs.declared.Window.{Window}
+use Rattle.head.specs.declared.Window.the-variants.{Idle, Before, Inside}
+use Rattle.words.specs.Words.{narrowed}
+use Rattle.headwords.specs.declared.WindowWords.{WindowWords}
+
+-- a timer that runs past every setting: sound in no state
+abbrev pub strange : Timer
+strange = record { left = 4294967295 }
+
+abbrev pub timerOf : ℕ → Timer
+timerOf w = record { left = narrowed w }
+
+abbrev pub quantaOf : ℕ → Quanta
+quantaOf w = record { 0 = narrowed w }
+
+-- what a phase does not hold is 0
+abbrev pub windowWords : Window → WindowWords
+windowWords Idle = record { phase = 0; left = 0; length = 0 }
+windowWords (Before t length) = record { phase = 1; left = t .left; length = length .0 }
+windowWords (Inside t) = record { phase = 2; left = t .left; length = 0 }
+
+unfoldable pub windowOf : WindowWords → Window
+windowOf w =
+    let t = timerOf (w .left) in
+    cond (eqb (w .phase) 0) Idle
+    (cond (eqb (w .phase) 1) (Before t (quantaOf (w .length)))
+    (cond (eqb (w .phase) 2) (Inside t) (Inside strange)))
+
+-- a count that has more than 32 bits is nobody's
+unfoldable pub addressOf : ℕ → ℕ → Address
+addressOf address count = cond (ltb 4294967295 count) (record { 0 = 0 }) (record { 0 = address })
+
+-- the words of a head, in their order
+unfoldable pub headWords : Head → List ℕ
+headWords h =
+    let w = windowWords (h .window) in
+    h .address .0 ∷ h .count .0 ∷ w .phase ∷ w .left ∷ w .length ∷ []
+
+-- the head that words tell
+unfoldable pub headOf : List ℕ → Head
+headOf w =
+    let at : ℕ → ℕ = λ i. getD w i 0 in
+    record {
+      address = addressOf (at 0) (at 1);
+      count = record { 0 = narrowed (at 1) };
+      window = windowOf (record { phase = at 2; left = at 3; length = at 4 });
+    }

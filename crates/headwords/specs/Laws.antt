@@ -1,0 +1,96 @@
+-- A table's words one link further on: what the loops over them do in a turn.
+-- Assumes nothing.
+use Prim.Native.Nat.{ℕ, zero, suc, _+_, _*_, _-_, _≤_, _<_}
+use mathlib.Core.Path.{_≡_, refl, sym, _∙_, ap}
+use mathlib.Core.List.{List, [], _∷_, _++_, append-assoc, append-nil}
+use native.Mathlib.Omega.{arith}
+use native.Mathlib.Nat.{add-zero}
+use native.Mathlib.Numerals.{add-one}
+use lib.ListN.{length, take, drop, getD, set, replicate}
+use lib.Seq.{length-take-le, take-suc, append-snoc, set-at, take-at, drop-at, drop-drop, getD-drop, sets-eq}
+use Rattle.links.specs.Link.{idle}
+use Rattle.links.specs.declared.Link.{Link}
+use Rattle.headwords.specs.Table.{linkWords, linkOf, five, wordsAt, tableWords, linksOf}
+use Rattle.headwords.specs.declared.LinkWords.{LinkWords}
+
+-- the five words at a place
+pub words-there : (ws : List ℕ) (k : ℕ)
+    → wordsAt (drop k ws)
+    ≡ record { address = getD ws k 0; state = getD ws (k + 1) 0; wait = getD ws (k + 2) 0; watchdog = getD ws (k + 3) 0; periodic = getD ws (k + 4) 0 }
+words-there ws k = rw (getD-drop k ws 0 0, getD-drop k ws 1 0, getD-drop k ws 2 0, getD-drop k ws 3 0, getD-drop k ws 4 0, add-zero k)
+
+-- stored there one after the other
+pub stored-there : (ws : List ℕ) (k : ℕ) (w : LinkWords) → k + 5 ≤ length ws
+    → set (set (set (set (set ws k (w .address)) (k + 1) (w .state)) (k + 2) (w .wait)) (k + 3) (w .watchdog)) (k + 4) (w .periodic)
+    ≡ take k ws ++ five w ++ drop (k + 5) ws
+stored-there ws k w h =
+    let e₁ : k + 1 ≡ suc k = omega arith in
+    let e₂ : k + 2 ≡ suc (suc k) = omega arith in
+    let e₃ : k + 3 ≡ suc (suc (suc k)) = omega arith in
+    let e₄ : k + 4 ≡ suc (suc (suc (suc k))) = omega arith in
+    rw (e₁, e₂, e₃, e₄) (sets-eq (five w) ws k h)
+
+pub length-links : (n : ℕ) (ws : List ℕ) → length (linksOf n ws) ≡ n
+unfolding linksOf
+length-links zero ws = refl
+length-links (suc n) ws = ap suc (length-links n (drop 5 ws))
+
+-- the next link stands behind the five words of each before it
+pub links-more : (n : ℕ) (ws : List ℕ) → linksOf (suc n) ws ≡ linksOf n ws ++ (linkOf (wordsAt (drop (5 * n) ws)) ∷ [])
+unfolding linksOf
+links-more zero ws = refl
+links-more (suc n) ws =
+    let further : 5 + 5 * n ≡ 5 * suc n = omega arith in
+    ap (λ (ls : List Link). linkOf (wordsAt ws) ∷ ls)
+    (links-more n (drop 5 ws)
+    ∙ ap (λ (u : List ℕ). linksOf n (drop 5 ws) ++ (linkOf (wordsAt u) ∷ [])) (drop-drop (5 * n) 5 ws ∙ ap (λ (k : ℕ). drop k ws) further))
+
+-- a turn of the loop that loads them
+pub load-turn : (ws : List ℕ) (i : ℕ) (v : Link) (out : List Link) → i < 64 → v ≡ linkOf (wordsAt (drop (5 * i) ws))
+    → out ≡ linksOf i ws ++ replicate (64 - i) idle → set out i v ≡ linksOf (i + 1) ws ++ replicate (64 - (i + 1)) idle
+load-turn ws i v out h e p =
+    let one : 64 - i ≡ suc (63 - i) = omega arith in
+    let rest : 64 - (i + 1) ≡ 63 - i = omega arith in
+    let before : out ≡ linksOf i ws ++ idle ∷ replicate (63 - i) idle = p ∙ ap (λ (k : ℕ). linksOf i ws ++ replicate k idle) one in
+    let more : linksOf i ws ++ (v ∷ []) ≡ linksOf (i + 1) ws =
+    ap (λ (l : Link). linksOf i ws ++ (l ∷ [])) e ∙ sym (links-more i ws) ∙ ap (λ (k : ℕ). linksOf k ws) (sym (add-one i)) in
+    ap (λ (ls : List Link). set ls i v) before
+    ∙ set-at (linksOf i ws) idle (replicate (63 - i) idle) v i (length-links i ws)
+    ∙ sym (append-snoc (linksOf i ws) v (replicate (63 - i) idle))
+    ∙ ap (λ (ls : List Link). ls ++ replicate (63 - i) idle) more
+    ∙ ap (λ (k : ℕ). linksOf (i + 1) ws ++ replicate k idle) (sym rest)
+
+pub length-table : (ls : List Link) → length (tableWords ls) ≡ 5 * length ls
+unfolding tableWords
+length-table [] = refl
+length-table (l ∷ ls) = let again : length (tableWords ls) ≡ 5 * length ls = length-table ls in omega (arith, again)
+
+table-append : (xs ys : List Link) → tableWords (xs ++ ys) ≡ tableWords xs ++ tableWords ys
+unfolding tableWords
+table-append [] ys = refl
+table-append (x ∷ xs) ys = ap (λ (us : List ℕ). five (linkWords x) ++ us) (table-append xs ys)
+
+-- one link more
+pub table-more : (ls : List Link) (i : ℕ) (d : Link) → i < length ls
+    → tableWords (take (suc i) ls) ≡ tableWords (take i ls) ++ five (linkWords (getD ls i d))
+unfolding tableWords
+table-more ls i d h = ap tableWords (take-suc ls i d h) ∙ table-append (take i ls) (getD ls i d ∷ [])
+
+-- a turn of the loop that stores them
+pub store-turn : (ls : List Link) (ws now : List ℕ) (i : ℕ) (d : Link) → i < length ls → now ≡ tableWords (take i ls) ++ drop (5 * i) ws
+    → take (5 * i) now ++ five (linkWords (getD ls i d)) ++ drop (5 * i + 5) now ≡ tableWords (take (i + 1) ls) ++ drop (5 * (i + 1)) ws
+store-turn ls ws now i d h p =
+    let few : i ≤ length ls = omega arith in
+    let size : length (tableWords (take i ls)) ≡ 5 * i = length-table (take i ls) ∙ ap (λ (k : ℕ). 5 * k) (length-take-le i ls few) in
+    let front : take (5 * i) now ≡ tableWords (take i ls) =
+    ap (take (5 * i)) p ∙ take-at (tableWords (take i ls)) (drop (5 * i) ws) (5 * i) size in
+    let behind : drop (5 * i) now ≡ drop (5 * i) ws =
+    ap (drop (5 * i)) p ∙ drop-at (tableWords (take i ls)) (drop (5 * i) ws) (5 * i) size in
+    let further : 5 * i + 5 ≡ 5 * (i + 1) = omega arith in
+    let rest : drop (5 * i + 5) now ≡ drop (5 * (i + 1)) ws =
+    sym (drop-drop 5 (5 * i) now) ∙ ap (drop 5) behind ∙ drop-drop 5 (5 * i) ws ∙ ap (λ (k : ℕ). drop k ws) further in
+    let more : tableWords (take i ls) ++ five (linkWords (getD ls i d)) ≡ tableWords (take (i + 1) ls) =
+    sym (table-more ls i d h) ∙ ap (λ (k : ℕ). tableWords (take k ls)) (sym (add-one i)) in
+    ap (λ (us : List ℕ). us ++ five (linkWords (getD ls i d)) ++ drop (5 * i + 5) now) front
+    ∙ ap (λ (us : List ℕ). us ++ drop (5 * i + 5) now) more
+    ∙ ap (λ (us : List ℕ). tableWords (take (i + 1) ls) ++ us) rest

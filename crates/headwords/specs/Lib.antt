@@ -1,0 +1,4 @@
+pub mod Head
+pub mod Laws
+pub mod Table
+pub mod Told

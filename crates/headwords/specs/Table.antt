@@ -1,0 +1,78 @@
+-- A table of links as words of 64 bits, five a link, one behind the other: which word holds what, and what links any words tell.
+-- Assumes nothing.
+use Prim.Native.Nat.{ℕ, zero, suc, _*_, _-_, _/_, min}
+use mathlib.Core.Bool.{cond}
+use mathlib.Core.List.{List, [], _∷_, _++_}
+use lib.Dec.{eqb, ltb}
+use lib.ListN.{length, take, drop, getD, replicate}
+use Rattle.clock.specs.declared.Timer.{Timer}
+use Rattle.links.specs.Link.{idle}
+use Rattle.links.specs.declared.Link.{Link}
+use Rattle.links.specs.declared.State.{State}
+use Rattle.links.specs.declared.State.the-variants.{Idle, Waiting, Registered}
+use Rattle.headwords.specs.Head.{strange, timerOf}
+use Rattle.headwords.specs.declared.LinkWords.{LinkWords}
+
+abbrev pub stateWord : State → ℕ
+stateWord Idle = 0
+stateWord Waiting = 1
+stateWord Registered = 2
+
+unfoldable pub stateOf : ℕ → State
+stateOf w = cond (eqb w 0) Idle (cond (eqb w 1) Waiting Registered)
+
+-- a word that is no state's makes the wait strange
+unfoldable pub waitOf : ℕ → ℕ → Timer
+waitOf state wait = cond (ltb 2 state) strange (timerOf wait)
+
+abbrev pub linkWords : Link → LinkWords
+linkWords l =
+    record {
+      address = l .address .0;
+      state = stateWord (l .state);
+      wait = l .wait .left;
+      watchdog = l .watchdog .left;
+      periodic = l .periodic .left;
+    }
+
+abbrev pub linkOf : LinkWords → Link
+linkOf w =
+    record {
+      address = record { 0 = w .address };
+      state = stateOf (w .state);
+      wait = waitOf (w .state) (w .wait);
+      watchdog = timerOf (w .watchdog);
+      periodic = timerOf (w .periodic);
+    }
+
+-- the words of a link, in their order
+abbrev pub five : LinkWords → List ℕ
+five w = w .address ∷ w .state ∷ w .wait ∷ w .watchdog ∷ w .periodic ∷ []
+
+-- the first five of words
+abbrev pub wordsAt : List ℕ → LinkWords
+wordsAt ws =
+    let at : ℕ → ℕ = λ i. getD ws i 0 in
+    record { address = at 0; state = at 1; wait = at 2; watchdog = at 3; periodic = at 4 }
+
+-- the words of a table
+unfoldable pub tableWords : List Link → List ℕ
+tableWords [] = []
+tableWords (l ∷ ls) = five (linkWords l) ++ tableWords ls
+
+-- the first n links that words tell
+unfoldable pub linksOf : ℕ → List ℕ → List Link
+linksOf zero ws = []
+linksOf (suc n) ws = linkOf (wordsAt ws) ∷ linksOf n (drop 5 ws)
+
+-- how many links so many words hold, at most a whole table
+abbrev pub linksIn : ℕ → ℕ
+linksIn words = min (words / 5) 64
+
+-- the links in the words, and idle ones behind them
+unfoldable pub loaded : List ℕ → List Link
+loaded ws = linksOf (linksIn (length ws)) ws ++ replicate (64 - linksIn (length ws)) idle
+
+-- as many links as the words have room for, and the words behind them
+unfoldable pub stored : List Link → List ℕ → List ℕ
+stored ls ws = tableWords (take (linksIn (length ws)) ls) ++ drop (5 * linksIn (length ws)) ws
