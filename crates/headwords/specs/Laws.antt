@@ -1,17 +1,29 @@
 -- A table's words one link further on: what the loops over them do in a turn.
 -- Assumes nothing.
-use Prim.Native.Nat.{ℕ, zero, suc, _+_, _*_, _-_, _≤_, _<_}
+use Prim.Native.Nat.{ℕ, zero, suc, _+_, _*_, _-_, _/_, _≤_, _<_}
+use mathlib.Core.Bool.{Bool, true, false}
 use mathlib.Core.Path.{_≡_, refl, sym, _∙_, ap}
 use mathlib.Core.List.{List, [], _∷_, _++_, append-assoc, append-nil}
 use native.Mathlib.Omega.{arith}
 use native.Mathlib.Nat.{add-zero}
 use native.Mathlib.Numerals.{add-one}
-use lib.ListN.{length, take, drop, getD, set, replicate}
+use borrow.Author.Tests.{leb-true}
+use lib.Dec.{leb}
+use lib.ListN.{length, take, drop, getD, set, replicate, length-append, length-replicate}
 use lib.Seq.{length-take-le, take-suc, append-snoc, set-at, take-at, drop-at, drop-drop, getD-drop, sets-eq}
 use Rattle.links.specs.Link.{idle}
 use Rattle.links.specs.declared.Link.{Link}
-use Rattle.headwords.specs.Table.{linkWords, linkOf, five, wordsAt, tableWords, linksOf}
+use Rattle.headwords.specs.Table.{linkWords, linkOf, five, wordsAt, tableWords, linksOf, linksIn, loaded}
 use Rattle.headwords.specs.declared.LinkWords.{LinkWords}
+
+-- never more than a table, nor more than there are words for
+few-by : (w : ℕ) (t : Bool) → leb (w / 5) 64 ≡ t → (linksIn w ≤ 64) × (5 * linksIn w ≤ w)
+unfolding linksIn
+few-by w true e = let h : w / 5 ≤ 64 = leb-true (w / 5) 64 e in (rw e h, rw e (omega arith))
+few-by w false e = (rw e (omega arith), rw e (omega arith))
+
+pub links-few : (w : ℕ) → (linksIn w ≤ 64) × (5 * linksIn w ≤ w)
+links-few w = few-by w (leb (w / 5) 64) refl
 
 -- the five words at a place
 pub words-there : (ws : List ℕ) (k : ℕ)
@@ -94,3 +106,10 @@ store-turn ls ws now i d h p =
     ap (λ (us : List ℕ). us ++ five (linkWords (getD ls i d)) ++ drop (5 * i + 5) now) front
     ∙ ap (λ (us : List ℕ). us ++ drop (5 * i + 5) now) more
     ∙ ap (λ (us : List ℕ). tableWords (take (i + 1) ls) ++ us) rest
+
+-- the loaded table is full
+pub length-loaded : (ws : List ℕ) → length (loaded ws) ≡ 64
+unfolding loaded
+length-loaded ws =
+    let few = links-few (length ws) in
+    rw (length-append, length-links (linksIn (length ws)) ws, length-replicate) (omega (arith, few .0))

@@ -1,9 +1,9 @@
 -- A table of links as words of 64 bits, five a link, one behind the other: which word holds what, and what links any words tell.
 -- Assumes nothing.
-use Prim.Native.Nat.{ℕ, zero, suc, _*_, _-_, _/_, min}
+use Prim.Native.Nat.{ℕ, zero, suc, _*_, _-_, _/_}
 use mathlib.Core.Bool.{cond}
 use mathlib.Core.List.{List, [], _∷_, _++_}
-use lib.Dec.{eqb, ltb}
+use lib.Dec.{eqb, leb, ltb}
 use lib.ListN.{length, take, drop, getD, replicate}
 use Rattle.clock.specs.declared.Timer.{Timer}
 use Rattle.links.specs.Link.{idle}
@@ -65,13 +65,17 @@ unfoldable pub linksOf : ℕ → List ℕ → List Link
 linksOf zero ws = []
 linksOf (suc n) ws = linkOf (wordsAt ws) ∷ linksOf n (drop 5 ws)
 
--- how many links so many words hold, at most a whole table
-abbrev pub linksIn : ℕ → ℕ
-linksIn words = min (words / 5) 64
+-- how many links so many words hold; more than a table may have are taken as none
+unfoldable pub linksIn : ℕ → ℕ
+linksIn words = cond (leb (words / 5) 64) (words / 5) 0
+
+-- the links that words tell
+abbrev pub linksAt : List ℕ → List Link
+linksAt ws = linksOf (linksIn (length ws)) ws
 
 -- the links in the words, and idle ones behind them
 unfoldable pub loaded : List ℕ → List Link
-loaded ws = linksOf (linksIn (length ws)) ws ++ replicate (64 - linksIn (length ws)) idle
+loaded ws = linksAt ws ++ replicate (64 - linksIn (length ws)) idle
 
 -- as many links as the words have room for, and the words behind them
 unfoldable pub stored : List Link → List ℕ → List ℕ

@@ -1,6 +1,6 @@
 // A head, its table of links and its answer as words of 64 bits, which is how the C face keeps them in the caller's memory.
 ghost use mathlib.Core.Path.{_≡_};
-ghost use Prim.Native.Nat.{_+_, _≤_, min};
+ghost use Prim.Native.Nat.{_+_, _≤_};
 ghost use mathlib.Core.List.{_++_};
 ghost use lib.ListN.{length, take, drop};
 ghost use Rattle.headwords.specs.Head.{strange, timerOf, quantaOf, windowWords, windowOf, addressOf, headWords, headOf};
@@ -233,12 +233,15 @@ fn put_link(l: Link, words: &mut [u64], at: usize)
     words[at + 4] = w.periodic;
 }
 
-// How many links so many words hold, at most a whole table.
+// How many links so many words hold. More than a table may have are taken as none, which is no table either.
 pub fn links_in(words: usize) -> usize
     ensures { λ r. ⌜ r ≡ linksIn words ⌝ }
 {
     let n = words / LINK;
-    if n < Link::MOST { n } else { Link::MOST }
+    if n <= Link::MOST {
+        return n;
+    }
+    0
 }
 
 // The links in the words, and idle ones behind them.

@@ -5,7 +5,7 @@ use mathlib.Core.Path.{_≡_, refl, _∙_, ap}
 use mathlib.Core.List.{_++_}
 use lib.ListN.{length, replicate, length-set}
 use Rattle.links.specs.Link.{idle}
-use Rattle.headwords.specs.Laws.{load-turn}
+use Rattle.headwords.specs.Laws.{links-few, load-turn}
 use Rattle.headwords.specs.Table.{linksOf, linksIn, loaded}
 use borrow.Author.Needs.{needs}
 use native.Mathlib.Omega.{arith}
@@ -13,7 +13,7 @@ use Rattle.headwords.proofs.load_links.Statement.{statement}
 use Rattle.headwords.proofs.load_links.Tie as tie
 
 abbrev Inv-loop : tie.InvT-loop
-Inv-loop words n out₀ i₀ out i = (i ≤ n) × (n ≡ linksIn (length words)) × (length out ≡ 64) × (out ≡ linksOf i words ++ replicate (64 - i) idle)
+Inv-loop words n out₀ i₀ out i = (i ≤ n) × (n ≡ linksIn (length words)) × (n ≤ 64) × (length out ≡ 64) × (out ≡ linksOf i words ++ replicate (64 - i) idle)
 
 abbrev μ-loop : tie.MeasureT-loop
 μ-loop words n out₀ i₀ out i = n - i
@@ -26,13 +26,16 @@ idle-requires c κs = search needs
 
 loop-holds : tie.Need-loop-holds Inv-loop μ-loop
 unfolding linksOf
-loop-holds c = (omega arith, c .before .links-in .ensures, refl, ap (replicate 64) (c .idle .ensures))
+loop-holds c = (omega arith, c .before .links-in .ensures, rw (c .before .links-in .ensures) (links-few _ .0), refl, ap (replicate 64) (c .idle .ensures))
 
 mul-link-at : tie.Need-mul-link-at Inv-loop μ-loop
 mul-link-at c = search needs
 
 link-at-requires : tie.Need-link-at-requires Inv-loop μ-loop
-link-at-requires c κs = search needs
+link-at-requires c κs =
+    let l = c .before in
+    let few = links-few (length (l .before .before .before .before .args .words .now)) in
+    omega (arith, few .1, l .loop .inv .1, c .loop-test .taken)
 
 mul-out : tie.Need-mul-out Inv-loop μ-loop
 mul-out c = search needs
@@ -53,8 +56,9 @@ loop-again c =
     let few : l .loop .i < 64 = omega arith in (
       omega arith,
       l .loop .inv .1,
-      simp length-set (l .loop .inv .2),
-      load-turn (a .words .now) (l .loop .i) _ (l .loop .out) few (c .link-at .ensures) (l .loop .inv .3),
+      l .loop .inv .2,
+      simp length-set (l .loop .inv .3),
+      load-turn (a .words .now) (l .loop .i) _ (l .loop .out) few (c .link-at .ensures) (l .loop .inv .4),
     )
 
 returns : tie.Need-returns Inv-loop μ-loop
@@ -62,8 +66,8 @@ unfolding loaded
 returns c =
     let l = c .before in
     let a = l .before .before .before .before .args in
-    let e : l .loop .i ≡ linksIn (length (a .words .now)) = omega arith in
-    l .loop .inv .3 ∙ ap (λ (k : ℕ). linksOf k (a .words .now) ++ replicate (64 - k) idle) e
+    let e : l .loop .i ≡ linksIn (length (a .words .now)) = omega (arith, l .loop .inv .0, l .loop .inv .1, c .loop-test .left) in
+    l .loop .inv .4 ∙ ap (λ (k : ℕ). linksOf k (a .words .now) ++ replicate (64 - k) idle) e
 
 pub load-links-spec : {M : Type 1} → statement M
 load-links-spec =

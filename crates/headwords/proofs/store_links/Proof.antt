@@ -5,7 +5,7 @@ use mathlib.Core.Path.{_≡_, refl, _∙_, ap}
 use mathlib.Core.List.{_++_}
 use lib.ListN.{length, take, drop}
 use Rattle.links.specs.Link.{idle}
-use Rattle.headwords.specs.Laws.{store-turn}
+use Rattle.headwords.specs.Laws.{links-few, store-turn}
 use Rattle.headwords.specs.Table.{tableWords, linksIn, stored}
 use borrow.Author.Needs.{needs}
 use native.Mathlib.Omega.{arith}
@@ -13,7 +13,7 @@ use Rattle.headwords.proofs.store_links.Statement.{statement}
 use Rattle.headwords.proofs.store_links.Tie as tie
 
 abbrev Inv-loop : tie.InvT-loop
-Inv-loop words₀ links n i₀ words i = (i ≤ n) × (n ≡ linksIn (length words₀)) × (length words ≡ length words₀) × (words ≡ tableWords (take i links) ++ drop (5 * i) words₀)
+Inv-loop words₀ links n i₀ words i = (i ≤ n) × (n ≡ linksIn (length words₀)) × (n ≤ 64) × (length words ≡ length words₀) × (words ≡ tableWords (take i links) ++ drop (5 * i) words₀)
 
 abbrev μ-loop : tie.MeasureT-loop
 μ-loop words₀ links n i₀ words i = n - i
@@ -23,7 +23,7 @@ links-in-requires c κs = search needs
 
 loop-holds : tie.Need-loop-holds Inv-loop μ-loop
 unfolding tableWords
-loop-holds c = (omega arith, c .links-in .ensures, refl, refl)
+loop-holds c = (omega arith, c .links-in .ensures, rw (c .links-in .ensures) (links-few _ .0), refl, refl)
 
 mul-l : tie.Need-mul-l Inv-loop μ-loop
 mul-l c = search needs
@@ -35,7 +35,10 @@ mul-put-link : tie.Need-mul-put-link Inv-loop μ-loop
 mul-put-link c = search needs
 
 put-link-requires : tie.Need-put-link-requires Inv-loop μ-loop
-put-link-requires c κs = search needs
+put-link-requires c κs =
+    let l = c .before .before .before in
+    let few = links-few (length (l .before .before .before .args .words .now)) in
+    omega (arith, few .1, l .loop .inv .1, l .loop .inv .3, c .before .before .loop-test .taken)
 
 add-i : tie.Need-add-i Inv-loop μ-loop
 add-i c = search needs
@@ -51,8 +54,9 @@ loop-again c =
     let x : l .loop .i < length (a .t1) = omega arith in (
       omega arith,
       l .loop .inv .1,
+      l .loop .inv .2,
       omega arith,
-      c .before .before .put-link .ensures ∙ store-turn (a .t1) (a .words .now) (l .loop .words) (l .loop .i) idle x (l .loop .inv .3),
+      c .before .before .put-link .ensures ∙ store-turn (a .t1) (a .words .now) (l .loop .words) (l .loop .i) idle x (l .loop .inv .4),
     )
 
 same-length : tie.Need-same-length Inv-loop μ-loop
@@ -63,8 +67,8 @@ unfolding stored
 returns c =
     let l = c .before in
     let a = l .before .before .before .args in
-    let e : l .loop .i ≡ linksIn (length (a .words .now)) = omega arith in
-    l .loop .inv .3 ∙ ap (λ (k : ℕ). tableWords (take k (a .t1)) ++ drop (5 * k) (a .words .now)) e
+    let e : l .loop .i ≡ linksIn (length (a .words .now)) = omega (arith, l .loop .inv .0, l .loop .inv .1, c .loop-test .left) in
+    l .loop .inv .4 ∙ ap (λ (k : ℕ). tableWords (take k (a .t1)) ++ drop (5 * k) (a .words .now)) e
 
 pub store-links-spec : {M : Type 1} → statement M
 store-links-spec =
