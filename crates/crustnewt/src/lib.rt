@@ -1,4 +1,4 @@
-// The C face: the caller keeps a box as words in a block, and lends what a call hands out.
+// The C face: the caller keeps a box, or a head and its table, as words in blocks, and lends what a call hands out.
 ghost use mathlib.Core.Path.{_≡_};
 ghost use Prim.Native.Nat.{_≤_};
 ghost use lib.ListN.{length, take};
@@ -9,11 +9,17 @@ ghost use Rattle.boxwords.specs.Box.{boxWords};
 ghost use Rattle.words.specs.Words.{laid};
 ghost use Rattle.floorbox.specs.Answer.{refused};
 ghost use Rattle.floorbox.specs.Box.{registerOf, deregisterOf, tickOf};
+ghost use Rattle.headcall.specs.Calls.{left as headLeft, begunLeft, servedOf, heardOf as headHeard, begunOf};
+ghost use Rattle.headcall.specs.Gate.{askedOf};
+ghost use Rattle.judging.specs.declared.Request.{Request as Requested};
+use clock::Count;
+use clock::Quanta;
 use floorbox::Answer;
 use floorbox::FloorBox;
 use frame::Address;
 use frame::Reply;
 use frame::Writing;
+use judging::Request;
 use telling::Frames;
 use telling::Notices;
 
@@ -304,4 +310,180 @@ pub extern "C" fn crustnewt_write(message: &[u64], octets: &mut [u8]) -> u8
         return reply.number();
     }
     SHORT
+}
+
+// A head that has not begun, over as many links as are lent.
+#[no_mangle]
+pub extern "C" fn crustnewt_head_fresh(
+    address: u64,
+    head: &mut [u64],
+    links: &mut [u64],
+    reply: &mut [u64],
+) -> u8
+    ensures { λ r. ⌜ begunLeft r (now (head .exit)) (now (links .exit)) (now (reply .exit)) ≡ begunOf (record { 0 = address }) (now (head .entry)) (now (links .entry)) (now (reply .entry)) ⌝ }
+{
+    headcall::begun(Address(address), head, links, reply)
+}
+
+// The client opens a discovery window.
+#[no_mangle]
+pub extern "C" fn crustnewt_head_open(
+    start: u32,
+    length: u32,
+    sync: u32,
+    window: u32,
+    head: &mut [u64],
+    links: &mut [u64],
+    output: &mut [u8],
+    reply: &mut [u64],
+) -> u8
+    ensures { λ r. ⌜ headLeft r (now (head .exit)) (now (links .exit)) (now (output .exit)) (now (reply .exit)) ≡ servedOf (Requested.Open (record { 0 = start }) (record { 0 = length }) (record { 0 = sync }) (record { 0 = window })) (now (head .entry)) (now (links .entry)) (now (output .entry)) (now (reply .entry)) ⌝ }
+{
+    headcall::served(
+        Request::Open {
+            start: Count(start),
+            length: Quanta(length),
+            sync: Quanta(sync),
+            window: Quanta(window),
+        },
+        head,
+        links,
+        output,
+        reply,
+    )
+}
+
+// The client admits a box that asked.
+#[no_mangle]
+pub extern "C" fn crustnewt_head_admit(
+    address: u64,
+    pending: u8,
+    sync: u32,
+    head: &mut [u64],
+    links: &mut [u64],
+    output: &mut [u8],
+    reply: &mut [u64],
+) -> u8
+    ensures { λ r. ⌜ headLeft r (now (head .exit)) (now (links .exit)) (now (output .exit)) (now (reply .exit)) ≡ servedOf (Requested.Admit (record { 0 = address }) pending (record { 0 = sync })) (now (head .entry)) (now (links .entry)) (now (output .entry)) (now (reply .entry)) ⌝ }
+{
+    headcall::served(
+        Request::Admit {
+            address: Address(address),
+            pending,
+            sync: Quanta(sync),
+        },
+        head,
+        links,
+        output,
+        reply,
+    )
+}
+
+// The client rejects a box that asked.
+#[no_mangle]
+pub extern "C" fn crustnewt_head_reject(
+    address: u64,
+    pending: u8,
+    sync: u32,
+    head: &mut [u64],
+    links: &mut [u64],
+    output: &mut [u8],
+    reply: &mut [u64],
+) -> u8
+    ensures { λ r. ⌜ headLeft r (now (head .exit)) (now (links .exit)) (now (output .exit)) (now (reply .exit)) ≡ servedOf (Requested.Reject (record { 0 = address }) pending (record { 0 = sync })) (now (head .entry)) (now (links .entry)) (now (output .entry)) (now (reply .entry)) ⌝ }
+{
+    headcall::served(
+        Request::Reject {
+            address: Address(address),
+            pending,
+            sync: Quanta(sync),
+        },
+        head,
+        links,
+        output,
+        reply,
+    )
+}
+
+// The client has a registered box register anew.
+#[no_mangle]
+pub extern "C" fn crustnewt_head_reregister(
+    link: usize,
+    sync: u32,
+    head: &mut [u64],
+    links: &mut [u64],
+    output: &mut [u8],
+    reply: &mut [u64],
+) -> u8
+    ensures { λ r. ⌜ headLeft r (now (head .exit)) (now (links .exit)) (now (output .exit)) (now (reply .exit)) ≡ servedOf (Requested.Reregister link (record { 0 = sync })) (now (head .entry)) (now (links .entry)) (now (output .entry)) (now (reply .entry)) ⌝ }
+{
+    headcall::served(
+        Request::Reregister {
+            link,
+            sync: Quanta(sync),
+        },
+        head,
+        links,
+        output,
+        reply,
+    )
+}
+
+// The client drops a registered box.
+#[no_mangle]
+pub extern "C" fn crustnewt_head_deregister(
+    link: usize,
+    head: &mut [u64],
+    links: &mut [u64],
+    output: &mut [u8],
+    reply: &mut [u64],
+) -> u8
+    ensures { λ r. ⌜ headLeft r (now (head .exit)) (now (links .exit)) (now (output .exit)) (now (reply .exit)) ≡ servedOf (Requested.Deregister link) (now (head .entry)) (now (links .entry)) (now (output .entry)) (now (reply .entry)) ⌝ }
+{
+    headcall::served(Request::Deregister { link }, head, links, output, reply)
+}
+
+// The client sends a GATE, one word a grant.
+#[no_mangle]
+pub extern "C" fn crustnewt_head_gate(
+    link: usize,
+    grants: &[u64],
+    force: u8,
+    head: &mut [u64],
+    links: &mut [u64],
+    output: &mut [u8],
+    reply: &mut [u64],
+) -> u8
+    ensures { λ r. ⌜ headLeft r (now (head .exit)) (now (links .exit)) (now (output .exit)) (now (reply .exit)) ≡ servedOf (Requested.Gate link (askedOf (now (grants .entry)) force)) (now (head .entry)) (now (links .entry)) (now (output .entry)) (now (reply .entry)) ⌝ }
+{
+    let asked = headcall::asked(grants, force);
+    headcall::served(Request::Gate { link, asked }, head, links, output, reply)
+}
+
+// The octets of a frame that came on a link, read and heard.
+#[no_mangle]
+pub extern "C" fn crustnewt_head_hear(
+    link: usize,
+    octets: &[u8],
+    head: &mut [u64],
+    links: &mut [u64],
+    output: &mut [u8],
+    reply: &mut [u64],
+) -> u8
+    ensures { λ r. ⌜ headLeft r (now (head .exit)) (now (links .exit)) (now (output .exit)) (now (reply .exit)) ≡ headHeard link (now (octets .entry)) (now (head .entry)) (now (links .entry)) (now (output .entry)) (now (reply .entry)) ⌝ }
+{
+    headcall::heard(link, octets, head, links, output, reply)
+}
+
+// One quantum has passed.
+#[no_mangle]
+pub extern "C" fn crustnewt_head_tick(
+    head: &mut [u64],
+    links: &mut [u64],
+    output: &mut [u8],
+    reply: &mut [u64],
+) -> u8
+    ensures { λ r. ⌜ headLeft r (now (head .exit)) (now (links .exit)) (now (output .exit)) (now (reply .exit)) ≡ servedOf (Requested.Tick) (now (head .entry)) (now (links .entry)) (now (output .entry)) (now (reply .entry)) ⌝ }
+{
+    headcall::served(Request::Tick, head, links, output, reply)
 }

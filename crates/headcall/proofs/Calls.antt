@@ -126,7 +126,7 @@ module _ {M : Type 1} (𝓤 : URA M) (H : Heap 𝓤) (A : Atoms 𝓤) (W : Given
   to-load-links = (((κ, tt), (q, tt), tt, (at-list b o δ us, tt), (sliceVal (b, o) n ∷ [], tt)), tt)
 
   pub goes-load-links : ent 𝓤 (sep 𝓤 (A .lft κ q) (sem 𝓤 H A (ShrSlice (named 0) κ u64 .own (at-list b o δ us) (sliceVal (b, o) n ∷ [])))) (LoadLinks 𝓤 H A mem run .pre to-load-links)
-  goes-load-links  =
+  goes-load-links =
       qed W (‵ (flft κ q) ∷ ‵ (ShrSlice (named 0) κ u64 .own (at-list b o δ us) (sliceVal (b, o) n ∷ [])) ∷ []) ∵ nothing ! $ move ! (2 ∷ 0 ∷ []) $ fjoin ! $ nothing ! $ move ! (2 ∷ 0 ∷ []) $ join ! $ join ! $ frame ! $ done !
 
   abbrev pub Left-load-links : Val → Item 𝓤

@@ -1,3 +1,4 @@
 -- What the proofs of several functions use.
-mod Values
 mod Calls
+mod Values
+mod Words

@@ -1,1 +1,3 @@
+pub mod Calls
+pub mod Gate
 pub mod Lend

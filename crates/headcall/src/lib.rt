@@ -1,12 +1,31 @@
 // The head's calls over words in the caller's memory: head and table are taken from them, and laid back where a call is done.
 ghost use mathlib.Core.Path.{_≡_};
 ghost use Prim.Native.Nat.{_≤_};
+ghost use lib.ListN.{getD};
+ghost use Rattle.headcall.specs.Calls.{left, begunLeft, told, headAt, isLent, laidHead, keptHead, toldOf, refusedOf, servedOf, heardOf, begunOf};
+ghost use Rattle.headcall.specs.Gate.{leaveOf, askedOf};
 ghost use Rattle.headcall.specs.Lend.{kept, keptOf, lendLeft, lendOf, clearOf};
+use clock::Count;
+use clock::Quanta;
 use frame::Address;
+use frame::Reply;
+use gating::Asked;
+use gating::Leave;
 use head::Head;
 use judging::Request;
 use links::Link;
 use serving::Answer;
+
+// A lent block or slice that is too short: no number of the card.
+const SHORT: u8 = 100;
+
+// Words of a head, and of what a call of it tells.
+const HEAD: usize = 5;
+
+const REPLY: usize = 4;
+
+// A grant is one word: its start in the upper 32 bits, its length below.
+const TURN: u64 = 0x100000000;
 
 // A call that is done leaves its table in the words, a refused one leaves them as they were.
 fn keep(words: &mut [u64], answer: Answer, table: [Link; 64]) -> Answer
@@ -37,4 +56,145 @@ fn clear(address: Address, words: &mut [u64], n: usize) -> Answer
     let mut table = headwords::load_links(words);
     let answer = serving::fresh(address, &mut table[..n]);
     keep(words, answer, table)
+}
+
+fn is_lent(head: usize, reply: usize) -> bool
+    ensures { λ r. ⌜ r ≡ isLent head reply ⌝ }
+{
+    (HEAD <= head) & (REPLY <= reply)
+}
+
+// The head in a block; words that a short block lacks are 0.
+fn load_head(head: &[u64]) -> Head
+    ensures { λ r. ⌜ r ≡ headAt (now (head .entry)) ⌝ }
+{
+    let mut w = [0u64; 5];
+    words::lay(head, &mut w);
+    headwords::head_of(w)
+}
+
+fn lay_head(answer: Answer, head: &mut [u64])
+    ensures { λ _. ⌜ now (head .exit) ≡ laidHead answer (now (head .entry)) ⌝ }
+{
+    let next = answer.next;
+    let w = headwords::pack_head(next);
+    words::lay(&w, head);
+}
+
+// A refused call leaves the block as it was, so that words that are no head's stay.
+fn keep_head(answer: Answer, head: &mut [u64])
+    ensures { λ _. ⌜ now (head .exit) ≡ keptHead answer (now (head .entry)) ⌝ }
+{
+    let reply = answer.reply;
+    if reply.number() != 0 {
+        return;
+    }
+    lay_head(answer, head);
+}
+
+fn tell(answer: Answer, reply: &mut [u64]) -> u8
+    ensures { λ r. ⌜ told r (now (reply .exit)) ≡ toldOf answer (now (reply .entry)) ⌝ }
+{
+    let words = headwords::told(answer);
+    words::lay(&words, reply);
+    let number = answer.reply;
+    number.number()
+}
+
+// A call of the head in the block, over the links that the words tell.
+pub fn served(
+    request: Request,
+    head: &mut [u64],
+    links: &mut [u64],
+    out: &mut [u8],
+    reply: &mut [u64],
+) -> u8
+    ensures { λ r. ⌜ left r (now (head .exit)) (now (links .exit)) (now (out .exit)) (now (reply .exit)) ≡ servedOf request (now (head .entry)) (now (links .entry)) (now (out .entry)) (now (reply .entry)) ⌝ }
+{
+    if is_lent(head.len(), reply.len()) {
+        let h = load_head(head);
+        let n = headwords::links_in(links.len());
+        let answer = lend(h, links, n, request, out);
+        keep_head(answer, head);
+        return tell(answer, reply);
+    }
+    SHORT
+}
+
+// A frame that the reader refuses changes nothing, and nothing is told.
+fn refused(why: Reply, head: &[u64], reply: &mut [u64]) -> u8
+    ensures { λ r. ⌜ told r (now (reply .exit)) ≡ refusedOf why (now (head .entry)) (now (reply .entry)) ⌝ }
+{
+    if is_lent(head.len(), reply.len()) {
+        let nothing = [0u64; 4];
+        words::lay(&nothing, reply);
+        return why.number();
+    }
+    SHORT
+}
+
+// The octets of a frame that came on a link, read and heard.
+pub fn heard(
+    link: usize,
+    octets: &[u8],
+    head: &mut [u64],
+    links: &mut [u64],
+    out: &mut [u8],
+    reply: &mut [u64],
+) -> u8
+    ensures { λ r. ⌜ left r (now (head .exit)) (now (links .exit)) (now (out .exit)) (now (reply .exit)) ≡ heardOf link (now (octets .entry)) (now (head .entry)) (now (links .entry)) (now (out .entry)) (now (reply .entry)) ⌝ }
+{
+    let reading = reader::read(octets);
+    let why = reading.reply;
+    let message = reading.message;
+    if why.number() == 0 {
+        return served(Request::Hear { link, message }, head, links, out, reply);
+    }
+    refused(why, head, reply)
+}
+
+// A head that has not begun, over as many links as the words hold; a refused one holds address zero.
+pub fn begun(address: Address, head: &mut [u64], links: &mut [u64], reply: &mut [u64]) -> u8
+    ensures { λ r. ⌜ begunLeft r (now (head .exit)) (now (links .exit)) (now (reply .exit)) ≡ begunOf address (now (head .entry)) (now (links .entry)) (now (reply .entry)) ⌝ }
+{
+    if is_lent(head.len(), reply.len()) {
+        let n = headwords::links_in(links.len());
+        let answer = clear(address, links, n);
+        lay_head(answer, head);
+        return tell(answer, reply);
+    }
+    SHORT
+}
+
+fn leave_of(word: u64) -> Leave
+    ensures { λ r. ⌜ r ≡ leaveOf word ⌝ }
+{
+    Leave {
+        start: Count((word / TURN) as u32),
+        length: Quanta((word % TURN) as u32),
+    }
+}
+
+// A grant that isn't there is one of start 0, length 0.
+fn leave_at(grants: &[u64], i: usize) -> Leave
+    ensures { λ r. ⌜ r ≡ leaveOf (getD (now (grants .entry)) i 0) ⌝ }
+{
+    if i < grants.len() {
+        return leave_of(grants[i]);
+    }
+    leave_of(0)
+}
+
+// What a gate request asks for, one word a grant.
+pub fn asked(grants: &[u64], force: u8) -> Asked
+    ensures { λ r. ⌜ r ≡ askedOf (now (grants .entry)) force ⌝ }
+{
+    Asked {
+        number: grants.len(),
+        first: leave_at(grants, 0),
+        second: leave_at(grants, 1),
+        third: leave_at(grants, 2),
+        fourth: leave_at(grants, 3),
+        force,
+    }
 }

@@ -1,0 +1,41 @@
+-- `headcall::refused` meets its promise.
+-- Assumes nothing.
+use Rattle.headcall.specs.Calls.{refusedOf}
+use borrow.Author.Needs.{needs}
+use Rattle.headcall.proofs.refused.Statement.{statement}
+use Rattle.headcall.proofs.refused.Tie as tie
+
+is-lent-requires : tie.Need-is-lent-requires
+is-lent-requires c κs = search needs
+
+slice-aggregate-lay : tie.Need-slice-aggregate-lay
+slice-aggregate-lay c = search needs
+
+lay-requires : tie.Need-lay-requires
+lay-requires c κs = search needs
+
+number-requires : tie.Need-number-requires
+number-requires c κs = search needs
+
+same-length : tie.Need-same-length
+same-length c = search needs
+
+returns : tie.Need-returns
+unfolding refusedOf
+returns c = rw (c .number .ensures, c .before .before .before .lay .ensures, ← c .before .before .before .before .before .before .before .is-lent .ensures, c .before .before .before .before .before .before .if1 .taken)
+
+returns-2 : tie.Need-returns-2
+unfolding refusedOf
+returns-2 c = rw (← c .before .is-lent .ensures, c .if1 .left)
+
+pub refused-spec : {M : Type 1} → statement M
+refused-spec =
+    tie.close
+    (tie.spec
+    is-lent-requires
+    slice-aggregate-lay
+    lay-requires
+    number-requires
+    same-length
+    returns
+    returns-2)

@@ -1,0 +1,109 @@
+-- What a call of the head leaves in the caller's memory: that of the core over the head and the links that the words tell, and nothing where
+-- too little is lent.
+-- Assumes nothing.
+use Prim.Native.Nat.{ℕ}
+use mathlib.Core.Bool.{Bool, cond, _&&_}
+use mathlib.Core.List.{List}
+use lib.Dec.{eqb, leb}
+use lib.ListN.{length, replicate}
+use Rattle.frame.specs.Card.{numberOf}
+use Rattle.frame.specs.declared.Address.{Address}
+use Rattle.frame.specs.declared.Reply.{Reply}
+use Rattle.head.specs.declared.Head.{Head}
+use Rattle.headwords.specs.Head.{headWords, headOf}
+use Rattle.headwords.specs.Table.{tableWords, linksAt}
+use Rattle.headwords.specs.Told.{toldWords}
+use Rattle.judging.specs.declared.Request.{Request}
+use Rattle.links.specs.declared.Link.{Link}
+use Rattle.reader.specs.Decode.{readOf}
+use Rattle.serving.specs.Fresh.{Freshly, isDone, freshOf}
+use Rattle.serving.specs.Serve.{Served, serveOf}
+use Rattle.serving.specs.declared.Answer.{Answer}
+use Rattle.words.specs.Words.{laid}
+
+-- the number that a call returns, and what then stands in the head's block, in the table, in the output and in the reply
+pub record Left : Type 0 where
+  pub number : ℕ
+  pub head : List ℕ
+  pub links : List ℕ
+  pub output : List ℕ
+  pub reply : List ℕ
+
+abbrev pub left : ℕ → List ℕ → List ℕ → List ℕ → List ℕ → Left
+left n head links output reply = record { number = n; head = head; links = links; output = output; reply = reply }
+
+-- the same of a call that lends no output
+pub record BegunLeft : Type 0 where
+  pub number : ℕ
+  pub head : List ℕ
+  pub links : List ℕ
+  pub reply : List ℕ
+
+abbrev pub begunLeft : ℕ → List ℕ → List ℕ → List ℕ → BegunLeft
+begunLeft n head links reply = record { number = n; head = head; links = links; reply = reply }
+
+-- and of what only tells
+pub record Told : Type 0 where
+  pub number : ℕ
+  pub reply : List ℕ
+
+abbrev pub told : ℕ → List ℕ → Told
+told n reply = record { number = n; reply = reply }
+
+-- the head that stands in a block
+unfoldable pub headAt : List ℕ → Head
+headAt block = headOf (laid block (replicate 5 0))
+
+-- 5 words for the head, 4 for what is told
+unfoldable pub isLent : ℕ → ℕ → Bool
+isLent head reply = leb 5 head && leb 4 reply
+
+unfoldable pub laidHead : Answer → List ℕ → List ℕ
+laidHead a head = laid (headWords (a .next)) head
+
+-- the head after a call that is done, or the block as it was
+unfoldable pub keptHead : Answer → List ℕ → List ℕ
+keptHead a head = cond (isDone (a .reply)) (laidHead a head) head
+
+-- the table after a call that is done, or the words as they were
+unfoldable pub keptLinks : Answer → List Link → List ℕ → List ℕ
+keptLinks a xs links = cond (isDone (a .reply)) (laid (tableWords xs) links) links
+
+unfoldable pub toldOf : Answer → List ℕ → Told
+toldOf a reply = told (numberOf (a .reply)) (laid (toldWords a) reply)
+
+-- what the core's call left, in the caller's memory
+unfoldable pub handed : Served → List ℕ → List ℕ → List ℕ → Left
+handed done head links reply =
+    let a = done .answer in
+    left (numberOf (a .reply)) (keptHead a head) (keptLinks a (done .table) links) (done .octets) (laid (toldWords a) reply)
+
+-- a call is the core's, of the head in the block and the links in the words; where too little is lent it is 100, and nothing is touched
+unfoldable pub servedOf : Request → List ℕ → List ℕ → List ℕ → List ℕ → Left
+servedOf r head links output reply =
+    cond (isLent (length head) (length reply)) (handed (serveOf (headAt head) (linksAt links) r output) head links reply)
+    (left 100 head links output reply)
+
+-- a refusal of the reader's: nothing is changed, and nothing told
+unfoldable pub refusedOf : Reply → List ℕ → List ℕ → Told
+refusedOf why head reply =
+    cond (isLent (length head) (length reply)) (told (numberOf why) (laid (replicate 4 0) reply)) (told 100 reply)
+
+-- the octets are read, and the message heard
+unfoldable pub heardOf : ℕ → List ℕ → List ℕ → List ℕ → List ℕ → List ℕ → Left
+heardOf link octets head links output reply =
+    let r = readOf octets in
+    let no = refusedOf (r .reply) head reply in
+    cond (eqb (numberOf (r .reply)) 0) (servedOf (Request.Hear link (r .message)) head links output reply)
+    (left (no .number) head links output (no .reply))
+
+-- the block of a fresh head is written even where it is refused: it then holds address zero
+unfoldable pub cleared : Freshly → List ℕ → List ℕ → List ℕ → BegunLeft
+cleared made head links reply =
+    let a = made .answer in
+    begunLeft (numberOf (a .reply)) (laidHead a head) (keptLinks a (made .table) links) (laid (toldWords a) reply)
+
+-- a fresh head over the links in the words
+unfoldable pub begunOf : Address → List ℕ → List ℕ → List ℕ → BegunLeft
+begunOf a head links reply =
+    cond (isLent (length head) (length reply)) (cleared (freshOf a (linksAt links)) head links reply) (begunLeft 100 head links reply)
