@@ -1,8 +1,9 @@
 //! Values that the replay language can't write: addresses of more than 48
 //! bits, lengths and sync times of more than 16. Both cores are asked
-//! directly, one call at a time.
+//! directly, one call at a time. No message of such values is heard: what is
+//! heard is octets, and no octets hold them.
 
-use crate::generate::messages::{any_message, granted};
+use crate::generate::messages::{any_frame, any_message, granted};
 use crate::generate::states::{any_box, any_head, any_links};
 use crate::generate::values::{address, count, sync};
 use crustnewt::dice::Dice;
@@ -40,16 +41,15 @@ fn box_call(core: &dyn Core, dice: &mut Dice) -> String {
     }
     let mut floor_box = core.floor_box();
     floor_box.set_state(&state);
-    let message = Message {
-        to: state.address,
-        ..wide_message(dice)
+    let frame = any_frame(dice);
+    let reply = match dice.below(5) {
+        0 => floor_box.fresh(wide_address(dice)),
+        1 => floor_box.hear(&frame, 0),
+        2 => floor_box.register(),
+        3 => floor_box.deregister(),
+        _ => floor_box.tick(),
     };
-    let reply = match dice.below(3) {
-        0 => floor_box.tick(),
-        1 => floor_box.fresh(wide_address(dice)),
-        _ => floor_box.hear(&message, 0),
-    };
-    told(&(state, message), (reply, floor_box.state()))
+    told(&(state, frame), (reply, floor_box.state()))
 }
 
 fn head_call(core: &dyn Core, dice: &mut Dice) -> String {
@@ -80,7 +80,7 @@ fn head_request(head: &mut dyn HeadCore, dice: &mut Dice) -> impl Debug {
     for grant in &mut grants {
         *grant = wide_grant(dice);
     }
-    match dice.below(6) {
+    match dice.below(8) {
         0 => head.admit(&newcomer),
         1 => head.reject(&newcomer),
         2 => head.reregister(1, newcomer.sync),
@@ -95,7 +95,9 @@ fn head_request(head: &mut dyn HeadCore, dice: &mut Dice) -> impl Debug {
             asked: dice.below(6),
             grants,
         }),
-        _ => head.hear(dice.below(3), &wide_message(dice)),
+        5 => head.hear(dice.below(3), &any_frame(dice)),
+        6 => head.fresh(newcomer.address),
+        _ => head.tick(),
     }
 }
 

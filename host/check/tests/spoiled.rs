@@ -83,8 +83,8 @@ impl HeadCore for SpoiledHead {
     fn gate(&mut self, request: &GateRequest) -> HeadReply {
         self.1.gate(request)
     }
-    fn hear(&mut self, link: u64, message: &Message) -> HeadReply {
-        self.1.hear(link, message)
+    fn hear(&mut self, link: u64, frame: &[u8]) -> HeadReply {
+        self.1.hear(link, frame)
     }
     fn tick(&mut self) -> HeadReply {
         let reply = self.1.tick();
@@ -139,9 +139,10 @@ impl BoxCore for SpoiledBox {
     fn deregister(&mut self) -> BoxReply {
         self.1.deregister()
     }
-    fn hear(&mut self, message: &Message, random: u32) -> BoxReply {
-        let reply = self.1.hear(message, random);
-        let discovery = matches!(message.body, Body::Discovery { .. });
+    fn hear(&mut self, frame: &[u8], random: u32) -> BoxReply {
+        let reply = self.1.hear(frame, random);
+        let body = PlainCore.read(frame).map(|message| message.body);
+        let discovery = matches!(body, Ok(Body::Discovery { .. }));
         let registered = reply.number == 0 && self.1.state().watchdog > 0;
         if self.0 == Flaw::WatchdogOnDiscovery && discovery && registered {
             self.change(|state| state.watchdog = 62_500_000);

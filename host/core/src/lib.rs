@@ -46,8 +46,8 @@ pub trait HeadCore {
     fn deregister(&mut self, link: u64) -> HeadReply;
     /// Sends a GATE.
     fn gate(&mut self, request: &GateRequest) -> HeadReply;
-    /// Hears a message.
-    fn hear(&mut self, link: u64, message: &Message) -> HeadReply;
+    /// A frame arrives on a link: reads it, then hears its message.
+    fn hear(&mut self, link: u64, frame: &[u8]) -> HeadReply;
     /// One quantum passes.
     fn tick(&mut self) -> HeadReply;
     /// The head's own state.
@@ -72,8 +72,8 @@ pub trait BoxCore {
     fn register(&mut self) -> BoxReply;
     /// The client asks to deregister.
     fn deregister(&mut self) -> BoxReply;
-    /// Hears a message.
-    fn hear(&mut self, message: &Message, random: u32) -> BoxReply;
+    /// A frame arrives: reads it, then hears its message.
+    fn hear(&mut self, frame: &[u8], random: u32) -> BoxReply;
     /// One quantum passes.
     fn tick(&mut self) -> BoxReply;
     /// Which of two frames of these many octets goes next.

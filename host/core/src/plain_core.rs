@@ -89,9 +89,12 @@ impl HeadCore for PlainHead {
             .into()
     }
 
-    fn hear(&mut self, link: u64, message: &Message) -> HeadReply {
-        self.head
-            .hear(&mut self.links, &mut self.output, link, message)
+    fn hear(&mut self, link: u64, frame: &[u8]) -> HeadReply {
+        frame::read(frame)
+            .and_then(|message| {
+                let (links, output) = (&mut self.links, &mut self.output);
+                self.head.hear(links, output, link, &message)
+            })
             .into()
     }
 
@@ -139,8 +142,10 @@ impl BoxCore for FloorBox {
         FloorBox::deregister(self).into()
     }
 
-    fn hear(&mut self, message: &Message, random: u32) -> BoxReply {
-        FloorBox::hear(self, message, random).into()
+    fn hear(&mut self, frame: &[u8], random: u32) -> BoxReply {
+        frame::read(frame)
+            .and_then(|message| FloorBox::hear(self, &message, random))
+            .into()
     }
 
     fn tick(&mut self) -> BoxReply {

@@ -162,19 +162,16 @@ impl<'a, W: Write> World<'a, W> {
     /// Hands over what has arrived.
     fn deliver(&mut self) -> io::Result<()> {
         while let Some(sent) = self.fibre.arrived_down(self.now) {
-            if let Ok(message) = self.core.read(&sent.frame) {
-                let random = self.random.half();
-                let reply = self.floors[sent.floor].floor_box.hear(&message, random);
-                self.hear_box(sent.floor, &reply, Cause::Message)?;
-            }
+            let random = self.random.half();
+            let floor_box = &mut self.floors[sent.floor].floor_box;
+            let reply = floor_box.hear(&sent.frame, random);
+            self.hear_box(sent.floor, &reply, Cause::Message)?;
         }
         while let Some(sent) = self.fibre.arrived_up(self.now) {
-            if let Ok(message) = self.core.read(&sent.frame) {
-                let reply = self.head.hear(sent.link, &message);
-                self.post(&reply, false)?;
-                if let Some(notice) = reply.notice {
-                    self.hear_head(sent.floor, &notice, &message)?;
-                }
+            let reply = self.head.hear(sent.link, &sent.frame);
+            self.post(&reply, false)?;
+            if let (Some(notice), Ok(message)) = (reply.notice, self.core.read(&sent.frame)) {
+                self.hear_head(sent.floor, &notice, &message)?;
             }
         }
         Ok(())

@@ -81,13 +81,7 @@ impl Stage<'_> {
             Call::HeadReregister { link, sync } => head.reregister(*link, *sync),
             Call::HeadDeregister { link } => head.deregister(*link),
             Call::HeadGate(request) => head.gate(request),
-            Call::HeadHear { link, frame } => match self.core.read(frame) {
-                Ok(message) => head.hear(*link, &message),
-                Err(number) => HeadReply {
-                    number,
-                    ..HeadReply::default()
-                },
-            },
+            Call::HeadHear { link, frame } => head.hear(*link, frame),
             _ => return None,
         })
     }
@@ -98,13 +92,7 @@ impl Stage<'_> {
             Call::BoxNew(address) => floor_box.fresh(*address),
             Call::BoxRegister => floor_box.register(),
             Call::BoxDeregister => floor_box.deregister(),
-            Call::BoxHear { random, frame } => match self.core.read(frame) {
-                Ok(message) => floor_box.hear(&message, *random),
-                Err(number) => BoxReply {
-                    number,
-                    ..BoxReply::default()
-                },
-            },
+            Call::BoxHear { random, frame } => floor_box.hear(frame, *random),
             _ => return None,
         })
     }
