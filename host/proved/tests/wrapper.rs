@@ -1,0 +1,206 @@
+//! The wrapper in use; answers worked by hand from document 01.
+
+use proved::{
+    AckFlag, Body, BoxNotice, BoxState, FloorBox, Frame, Grant, Granted, Head, HeadNotice,
+    HeadNoticeKind, Light, LinkState, Message, Next, OpenWindow, Refusal, RegisterFlag,
+    RequestFlag, Table, Window,
+};
+
+const HEAD: u64 = 0x0200_0000_0001;
+const BOX: u64 = 0x0200_0000_0031;
+const EVERYONE: u64 = 0x0180_C200_0001;
+
+fn head(links: usize) -> Head {
+    Head::fresh(HEAD, Table::new(links).unwrap()).unwrap()
+}
+
+fn body(frame: &Frame) -> Body {
+    Message::read(frame).unwrap().body()
+}
+
+/// A box that has heard of a window at count 0, sync 0 and length 74, and has
+/// asked in it; and its request.
+fn asked(head: &mut Head) -> (FloorBox, Frame) {
+    let mut floor_box = FloorBox::fresh(BOX).unwrap();
+    floor_box.register().unwrap();
+    let asked = OpenWindow {
+        grant: Grant {
+            start: 0,
+            length: 74,
+        },
+        sync: 0,
+        window: 100,
+    };
+    let sent = head.open_window(&asked).unwrap();
+    floor_box.hear(&sent.frames[0], 0).unwrap();
+    for _ in 0..31 {
+        assert!(floor_box.tick().unwrap().frames().is_empty());
+        head.tick().unwrap();
+    }
+    head.tick().unwrap();
+    let reply = floor_box.tick().unwrap();
+    assert!(reply.notices().eq([BoxNotice::Window]));
+    (floor_box, reply.frames()[0])
+}
+
+#[test]
+fn a_pair_registers_and_parts() {
+    let mut head = head(2);
+    let (mut floor_box, request) = asked(&mut head);
+    assert_eq!(floor_box.parts().light, Light::Asking { left: 42 });
+    let control = floor_box.next_to_send(&request, &[]);
+    assert_eq!(control, Next::Control(&request));
+
+    let notice = head.hear(0, &request).unwrap().notice;
+    let (link, trip) = (0, 0);
+    let kind = HeadNoticeKind::Request;
+    assert_eq!(notice, Some(HeadNotice { kind, link, trip }));
+    let register = head.admit(BOX, 16, 10).unwrap().frames[0];
+    assert_eq!(head.table().link(1).unwrap().state, LinkState::Waiting);
+
+    let reply = floor_box.hear(&register, 0).unwrap();
+    assert!(reply.notices().eq([BoxNotice::Registered]));
+    let [ack, report] = reply.frames() else {
+        panic!("{reply:?}")
+    };
+    let (flag, port, sync) = (AckFlag::Ack, 1, 10);
+    assert_eq!(body(ack), Body::RegisterAck { flag, port, sync });
+    assert_eq!(body(report), Body::Report);
+    assert_eq!(floor_box.state(), BoxState::Registered);
+
+    assert_eq!(head.hear(1, ack).unwrap().frames.len(), 1);
+    let kind = HeadNoticeKind::Report;
+    assert_eq!(head.hear(1, report).unwrap().notice.unwrap().kind, kind);
+    let farewell = head.deregister(1).unwrap().frames[0];
+    floor_box.hear(&farewell, 0).unwrap();
+    assert_eq!(floor_box.state(), BoxState::Wait);
+}
+
+#[test]
+fn a_grant_is_told_and_lit() {
+    let mut head = head(1);
+    let (mut floor_box, request) = asked(&mut head);
+    head.hear(0, &request).unwrap();
+    let register = head.admit(BOX, 16, 0).unwrap().frames[0];
+    floor_box.hear(&register, 0).unwrap();
+    let grant = Grant {
+        start: floor_box.count().wrapping_add(100),
+        length: 200,
+    };
+    let gate = head.gate(1, &[grant], 1).unwrap().frames[0];
+    let reply = floor_box.hear(&gate, 0).unwrap();
+    let force = true;
+    assert!(reply
+        .notices()
+        .eq([BoxNotice::Grant(Granted { grant, force })]));
+    assert_eq!(floor_box.parts().grants, [grant]);
+    // The request's 42 ticks of light end first; the wait begins then.
+    for _ in 0..100 {
+        floor_box.tick().unwrap();
+    }
+    let light = floor_box.parts().light;
+    let (left, length, sync) = (32, 200, 0);
+    assert_eq!(light, Light::Lit { left, length, sync });
+    assert!(light.is_lit() && light.left() == 32);
+}
+
+#[test]
+fn drift_is_signed() {
+    let mut head = head(1);
+    let (mut floor_box, _) = asked(&mut head);
+    let flag = RegisterFlag::Nack;
+    let (port, sync, pending) = (0, 0, 16);
+    let nack = Body::Register {
+        flag,
+        port,
+        sync,
+        pending,
+    };
+    let message = Message::new(BOX, HEAD, 30, &nack).unwrap();
+    let reply = floor_box.hear(&message.write().unwrap(), 0).unwrap();
+    assert_eq!(reply.drift(), -2);
+    assert!(reply.notices().eq([BoxNotice::Refused]));
+}
+
+#[test]
+fn what_is_stored_can_be_restored_if_it_is_sound() {
+    let mut head = head(3);
+    let (floor_box, _) = asked(&mut head);
+    let mut parts = floor_box.parts();
+    assert_eq!(FloorBox::restored(&parts), Ok(floor_box));
+    assert_eq!(FloorBox::from_words(*floor_box.words()), Ok(floor_box));
+    parts.wait = 0;
+    assert_eq!(FloorBox::restored(&parts), Err(Refusal::Unsound));
+    parts.grants = vec![Grant::default(); 17];
+    assert_eq!(FloorBox::restored(&parts), Err(Refusal::Unsound));
+
+    let links: Vec<_> = head.table().links().collect();
+    let table = Table::of(&links).unwrap();
+    let mut parts = head.parts();
+    assert_eq!(parts.window, Window::Inside { left: 68 });
+    let again = Head::restored(&parts, table.clone()).unwrap();
+    assert_eq!(again.words(), head.words());
+    assert_eq!(again.table(), head.table());
+    parts.window = Window::Inside { left: 131_073 };
+    let unsound = Head::restored(&parts, table);
+    assert_eq!(unsound.unwrap_err(), Refusal::Unsound);
+}
+
+#[test]
+fn refusals_have_their_names_and_change_nothing() {
+    assert_eq!(FloorBox::fresh(EVERYONE), Err(Refusal::Range));
+    let table = Table::new(1).unwrap();
+    assert_eq!(Head::fresh(1 << 48, table).unwrap_err(), Refusal::Range);
+    assert!(Table::new(0).is_none() && Table::new(65).is_none());
+
+    let mut floor_box = FloorBox::fresh(BOX).unwrap();
+    let before = floor_box;
+    assert_eq!(floor_box.deregister(), Err(Refusal::State));
+    assert_eq!(floor_box.hear(&[0; 59], 0), Err(Refusal::Size));
+    assert_eq!(floor_box, before);
+
+    let mut head = head(1);
+    assert_eq!(head.reregister(1, 0), Err(Refusal::Link));
+    assert_eq!(head.admit(HEAD, 0, 65_536), Err(Refusal::Range));
+    head.admit(BOX, 0, 0).unwrap();
+    assert_eq!(head.admit(BOX, 0, 0), Err(Refusal::Held));
+    assert_eq!(head.reject(0, 0, 0), Err(Refusal::Range));
+    assert_eq!(head.admit(HEAD, 0, 0), Err(Refusal::Full));
+    let grants = [Grant::default(); 5];
+    assert_eq!(head.gate(1, &grants, 0), Err(Refusal::Grant));
+    let told = Refusal::Full.to_string();
+    assert_eq!(told, "every link is held (11)");
+}
+
+#[test]
+fn messages_go_to_octets_and_back() {
+    let granted = Granted {
+        grant: Grant {
+            start: 7,
+            length: 74,
+        },
+        force: true,
+    };
+    let (flag, pending) = (RequestFlag::Deregister, 3);
+    for body in [
+        Body::Gate(vec![]),
+        Body::Gate(vec![granted; 4]),
+        Body::Discovery { granted, sync: 9 },
+        Body::Report,
+        Body::RegisterReq { flag, pending },
+    ] {
+        let message = Message::new(EVERYONE, BOX, 5, &body).unwrap();
+        let read = Message::read(&message.write().unwrap()).unwrap();
+        assert_eq!(read, message);
+        assert_eq!(read.body(), body);
+        assert_eq!((read.to(), read.from(), read.stamp()), (EVERYONE, BOX, 5));
+    }
+    let five = Body::Gate(vec![granted; 5]);
+    assert_eq!(Message::new(EVERYONE, BOX, 5, &five), None);
+    let wide = Body::Discovery {
+        granted,
+        sync: 65_536,
+    };
+    let wide = Message::new(EVERYONE, BOX, 5, &wide).unwrap();
+    assert_eq!(wide.write(), Err(Refusal::Range));
+}
