@@ -1,12 +1,16 @@
 //! The cores that there are.
 
 use crustnewt_core::{Core, PlainCore};
+use proved::ProvedCore;
 
 /// Name of a core, and how to make it.
 pub type Entry = (&'static str, fn() -> Box<dyn Core>);
 
 /// Every core there is, the default first. A further one is a line here.
-pub const CORES: &[Entry] = &[("plain", || Box::new(PlainCore))];
+pub const CORES: &[Entry] = &[
+    ("proved", || Box::new(ProvedCore)),
+    ("plain", || Box::new(PlainCore)),
+];
 
 /// The core of that name.
 pub fn core_named(name: &str) -> Option<Box<dyn Core>> {

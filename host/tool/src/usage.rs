@@ -34,14 +34,15 @@ Usage: crustnewt COMMAND
 1 if not, 2 if the command line can't be followed.";
 
 const REPLAY_HELP: &str = "\
-Usage: crustnewt replay [--plain] < SCRIPT
+Usage: crustnewt replay [--proved | --plain] < SCRIPT
 
 Reads a script of calls from standard input, makes them on one head and one
 box, and prints what each call answered and the state that it left. A line
 that isn't of the replay language is answered `? N` with its number, and the
 replay goes on; such lines don't change the exit status.
 
-  --plain   play on the plain core (the default)
+  --proved  play on the proved library (the default)
+  --plain   play on the independent program, written from the rules alone
   --help    this text";
 
 const NIGHT_HELP: &str = "\
@@ -64,7 +65,9 @@ and a closing table.
   --seed S          for losses and random waits (default 1)
   --seconds S       how long, 1 to 3600 (default: as the scenario needs)
   --every-tick      make each tick one by one
-  --plain           simulate on the plain core (the default)
+  --proved          simulate on the proved library (the default)
+  --plain           simulate on the independent program, written from the
+                    rules alone
   --help            this text
 
 One second is 62,500,000 ticks. Ticks in which no timer ends and nothing
