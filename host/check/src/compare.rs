@@ -4,6 +4,7 @@ use crustnewt::replay::{parse, Script, Stage};
 use crustnewt_core::Core;
 use plain::{FloorBox, Head, Link};
 use std::fmt;
+use std::panic::{catch_unwind, AssertUnwindSafe};
 
 /// How two cores differ, and after which line.
 #[derive(Clone, Debug, Default, PartialEq, Eq)]
@@ -35,11 +36,32 @@ impl fmt::Display for Difference {
     }
 }
 
-/// Plays a script on both; the first difference, if there is one.
+/// Plays a script on both; the first difference, if there is one. A panic is
+/// one: a core ends in it rather than guess what a word means.
 pub fn compare(first: &dyn Core, second: &dyn Core, script: &[String]) -> Option<Difference> {
+    let mut line = 0;
+    let play = AssertUnwindSafe(|| compare_lines(first, second, script, &mut line));
+    catch_unwind(play).unwrap_or_else(|_| {
+        let first = "one of the cores panicked".to_owned();
+        Some(Difference {
+            line,
+            first,
+            second: String::new(),
+        })
+    })
+}
+
+/// Compares line by line, and tells which it is at.
+fn compare_lines(
+    first: &dyn Core,
+    second: &dyn Core,
+    script: &[String],
+    at: &mut usize,
+) -> Option<Difference> {
     let mut first = Stage::new(first);
     let mut second = Stage::new(second);
     for (line, text) in script.iter().enumerate() {
+        *at = line;
         let (said_first, said_second) = (play(&mut first, text), play(&mut second, text));
         let differ = |first, second| Difference {
             line,

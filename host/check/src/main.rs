@@ -5,24 +5,25 @@ use crustnewt::cores::{core_named, CORES};
 use crustnewt_core::Core;
 use std::io::IsTerminal;
 use std::process::ExitCode;
+use std::time::{Duration, Instant};
 
 const HELP: &str = "\
 Usage: check [OPTION]...
 
-Plays cases on two cores and compares replies, states, frames, notices and
-whole outputs: first a fixed set (every state with every message, timers at
-their ends, outputs of every length), then cases made from seeds. These have
-consecutive seeds; the case of a seed alone is played again with
-`check --cases 1 --seed SEED`.
+Plays cases on the proved library and on the independent program, and compares
+replies, states, frames, notices and whole outputs: first a fixed set (every
+state with every message, timers at their ends, outputs of every length), then
+cases made from consecutive seeds. With each of these both are also asked
+directly, with values that a script can't write.
 
-  --cases N      how many made from seeds (default 8000)
-  --seed S       seed of the first (default 1)
-  --soak         go on until stopped or until two cores differ
-  --wide         also ask both directly with values that no frame can hold
-  --first NAME   one core (default: the first there is)
-  --second NAME  the other (default: the last there is)
-  --help         this text
+  --cases N       how many made from seeds (default 60000, about a minute)
+  --soak MINUTES  as many as take so long
+  --seed S        seed of the first (default 1)
+  --first NAME    one core, proved or plain (default proved)
+  --second NAME   the other (default plain)
+  --help          this text
 
+The case of a seed alone is played again with `check --cases 1 --seed SEED`.
 Exit status: 0 if no difference was found, 1 if one was (it is printed as a
 replay script, as short as it goes), 2 if the command line can't be followed.";
 
@@ -30,12 +31,25 @@ replay script, as short as it goes), 2 if the command line can't be followed.";
 const BETWEEN_LINES: u64 = 1000;
 
 struct Options {
-    cases: u64,
+    limit: Limit,
     seed: u64,
-    soak: bool,
-    wide: bool,
     first: Box<dyn Core>,
     second: Box<dyn Core>,
+}
+
+/// When to stop.
+enum Limit {
+    Cases(u64),
+    Time(Duration),
+}
+
+impl Limit {
+    fn is_reached(&self, played: u64, begun: Instant) -> bool {
+        match *self {
+            Limit::Cases(cases) => played >= cases,
+            Limit::Time(time) => begun.elapsed() >= time,
+        }
+    }
 }
 
 fn main() -> ExitCode {
@@ -56,19 +70,19 @@ fn main() -> ExitCode {
 fn options(words: &[String]) -> Result<Options, String> {
     let (first, last) = (CORES[0].1, CORES[CORES.len() - 1].1);
     let mut options = Options {
-        cases: 8000,
+        limit: Limit::Cases(60_000),
         seed: 1,
-        soak: false,
-        wide: false,
         first: first(),
         second: last(),
     };
     let mut words = words.iter();
     while let Some(word) = words.next() {
         match word.as_str() {
-            "--soak" => options.soak = true,
-            "--wide" => options.wide = true,
-            "--cases" => options.cases = number(word, words.next())?,
+            "--cases" => options.limit = Limit::Cases(number(word, words.next())?),
+            "--soak" => {
+                let minutes = number(word, words.next())?;
+                options.limit = Limit::Time(Duration::from_secs(minutes.saturating_mul(60)));
+            }
             "--seed" => options.seed = number(word, words.next())?,
             "--first" => options.first = core(word, words.next())?,
             "--second" => options.second = core(word, words.next())?,
@@ -106,13 +120,11 @@ fn run(options: &Options) -> ExitCode {
 fn play(options: &Options) -> Result<String, String> {
     let (first, second) = (&*options.first, &*options.second);
     let fixed = check_fixed(first, second).map_err(|failure| failure.to_string())?;
-    println!(
-        "{fixed} fixed cases, no difference; seeds from {}",
-        options.seed
-    );
+    println!("{fixed} fixed cases, no difference");
     let terminal = std::io::stderr().is_terminal();
+    let begun = Instant::now();
     let mut played = 0;
-    while options.soak || played < options.cases {
+    while !options.limit.is_reached(played, begun) {
         let seed = options.seed.wrapping_add(played);
         if let Some(told) = difference(options, seed) {
             return Err(told);
@@ -125,7 +137,10 @@ fn play(options: &Options) -> Result<String, String> {
     if terminal {
         eprint!("\r");
     }
-    Ok(format!("{played} cases, no difference"))
+    let (from, to) = (options.seed, options.seed.wrapping_add(played));
+    Ok(format!(
+        "{played} cases, seeds from {from} up to {to}, no difference"
+    ))
 }
 
 /// How the cores differ on a seed's case.
@@ -134,8 +149,7 @@ fn difference(options: &Options, seed: u64) -> Option<String> {
     if let Err(failure) = check(first, second, seed) {
         return Some(failure.to_string());
     }
-    let wide = options.wide.then(|| compare_wide(first, second, seed));
-    let told = wide.flatten()?;
+    let told = compare_wide(first, second, seed)?;
     Some(format!(
         "# seed {seed}: the cores differ when asked directly\n{told}"
     ))

@@ -4,7 +4,8 @@ use check::{check, check_fixed, compare, compare_wide};
 use crustnewt::replay::replay;
 use crustnewt_core::{BoxCore, BoxReply, Core, HeadCore, HeadReply, PlainCore};
 use plain::{
-    Address, Body, FloorBox, Frame, GateRequest, Head, Link, Message, Newcomer, Next, OpenWindow,
+    Address, Body, FloorBox, Frame, GateRequest, Head, HeadNotice, HeadNoticeKind, Link, Message,
+    Newcomer, Next, OpenWindow,
 };
 
 /// What is wrong with a spoiled core.
@@ -25,6 +26,18 @@ enum Flaw {
     RefusedTickCounts,
     /// The grant waited for is forgotten, in a field that no line prints.
     HiddenField,
+    /// A gate leaves the periodic timer as it was.
+    GateKeepsPeriodic,
+    /// The round trip is taken as a plain difference: wrong at the wrap.
+    TripAtWrap,
+    /// A refused fresh head idles its links all the same.
+    RefusedFreshIdles,
+    /// A refusal of the head tells a notice.
+    RefusalTells,
+    /// The reader judges the pad.
+    ReadsPad,
+    /// A request ends in a panic.
+    Panics,
 }
 
 struct Spoiled(Flaw);
@@ -35,7 +48,11 @@ struct SpoiledBox(Flaw, Box<dyn BoxCore>);
 
 impl Core for Spoiled {
     fn read(&self, frame: &[u8]) -> Result<Message, u8> {
-        PlainCore.read(frame)
+        let padded = frame.get(45..).is_some_and(|pad| pad != [0; 15]);
+        match PlainCore.read(frame) {
+            Ok(_) if padded && self.0 == Flaw::ReadsPad => Err(4),
+            read => read,
+        }
     }
 
     fn write(&self, message: &Message) -> (u8, Frame) {
@@ -63,7 +80,13 @@ impl HeadCore for SpoiledHead {
         self.1.lend_output(output);
     }
     fn fresh(&mut self, address: Address) -> HeadReply {
-        self.1.fresh(address)
+        let reply = self.1.fresh(address);
+        if self.0 == Flaw::RefusedFreshIdles && reply.number != 0 {
+            for place in 0..self.1.links() {
+                self.1.set_link(place, &Link::IDLE);
+            }
+        }
+        reply
     }
     fn open_window(&mut self, request: &OpenWindow) -> HeadReply {
         self.1.open_window(request)
@@ -81,10 +104,29 @@ impl HeadCore for SpoiledHead {
         self.1.deregister(link)
     }
     fn gate(&mut self, request: &GateRequest) -> HeadReply {
-        self.1.gate(request)
+        let before: Vec<Link> = (0..self.1.links())
+            .map(|place| self.1.link(place))
+            .collect();
+        let reply = self.1.gate(request);
+        if self.0 == Flaw::GateKeepsPeriodic {
+            for (place, link) in before.iter().enumerate() {
+                self.1.set_link(place, link);
+            }
+        }
+        reply
     }
     fn hear(&mut self, link: u64, frame: &[u8]) -> HeadReply {
-        self.1.hear(link, frame)
+        let mut reply = self.1.hear(link, frame);
+        let (count, kind) = (self.1.state().count, HeadNoticeKind::Report);
+        match (self.0, &mut reply.notice) {
+            (Flaw::TripAtWrap, Some(notice)) if notice.trip > count.0 => notice.trip = 0,
+            (Flaw::RefusalTells, notice) if reply.number == 7 => {
+                let (link, trip) = (0, 0);
+                *notice = Some(HeadNotice { kind, link, trip });
+            }
+            _ => {}
+        }
+        reply
     }
     fn tick(&mut self) -> HeadReply {
         let reply = self.1.tick();
@@ -137,6 +179,7 @@ impl BoxCore for SpoiledBox {
         self.1.register()
     }
     fn deregister(&mut self) -> BoxReply {
+        assert!(self.0 != Flaw::Panics, "this is the flaw");
         self.1.deregister()
     }
     fn hear(&mut self, frame: &[u8], random: u32) -> BoxReply {
@@ -231,6 +274,12 @@ fn each_flaw_is_found_and_shrunk() {
         Flaw::FitsShortWindow,
         Flaw::RefusedTickCounts,
         Flaw::HiddenField,
+        Flaw::GateKeepsPeriodic,
+        Flaw::TripAtWrap,
+        Flaw::RefusedFreshIdles,
+        Flaw::RefusalTells,
+        Flaw::ReadsPad,
+        Flaw::Panics,
     ] {
         let lines = found(flaw);
         assert!(lines.is_some_and(|lines| lines <= 8), "{flaw:?} {lines:?}");

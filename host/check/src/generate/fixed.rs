@@ -22,6 +22,7 @@ pub(crate) fn cases() -> Vec<(&'static str, Vec<String>)> {
         ("head states and messages", head_messages()),
         ("head timers", head_timers()),
         ("lent outputs", outputs()),
+        ("lent tables", tables()),
     ]
 }
 
@@ -308,6 +309,28 @@ fn head_timers() -> Vec<String> {
                 script.push("head tick 3".to_owned());
             }
         }
+    }
+    script
+}
+
+/// Tables of every size, allowed or not, with a frame due on every link.
+fn tables() -> Vec<String> {
+    let mut script = Vec::new();
+    for links in (0..=66).chain([100]) {
+        script.push(format!("head new {links} {HEAD}"));
+        for number in 1..=links {
+            let held = Link {
+                address: Address(BOX.0 + number as u64),
+                periodic: 1,
+                ..link_in(LinkState::Registered)
+            };
+            script.push(link_line(number, &held));
+        }
+        script.push("head tick 2".to_owned());
+        script.push(format!("head admit {OTHER} 1 2"));
+        script.push(format!("head gate {links} 0 0"));
+        script.push(format!("head deregister {links}"));
+        script.push(format!("head reregister {} 3", links + 1));
     }
     script
 }

@@ -10,7 +10,7 @@ use plain::{Count, Link};
 
 pub(crate) fn script(dice: &mut Dice) -> Vec<String> {
     let links = match dice.below(12) {
-        0 => dice.pick(&[0, 63, 64, 65]),
+        0 => dice.pick(&[0, 63, 64, 65, 66]),
         _ => dice.pick(&[1, 1, 1, 2, 2, 3, 4, 8]),
     };
     let own = if dice.chance(900) {
@@ -35,7 +35,7 @@ pub(crate) fn script(dice: &mut Dice) -> Vec<String> {
         }
     }
     if dice.chance(200) {
-        script.push(format!("head new {} {}", dice.below(66), address(dice)));
+        script.push(format!("head new {} {}", dice.below(68), address(dice)));
     }
     script
 }
