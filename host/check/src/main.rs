@@ -137,10 +137,8 @@ fn play(options: &Options) -> Result<String, String> {
     if terminal {
         eprint!("\r");
     }
-    let (from, to) = (options.seed, options.seed.wrapping_add(played));
-    Ok(format!(
-        "{played} cases, seeds from {from} up to {to}, no difference"
-    ))
+    let from = options.seed;
+    Ok(format!("{played} cases from seed {from} on, no difference"))
 }
 
 /// How the cores differ on a seed's case.

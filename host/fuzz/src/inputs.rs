@@ -1,0 +1,139 @@
+//! Octets and words to hand in.
+
+use crustnewt::dice::Dice;
+use proved::{AckFlag, Body, Grant, Granted, Message, RegisterFlag, RequestFlag};
+
+/// The head of every case.
+pub const HEAD: u64 = 0x0200_0000_0001;
+/// The box of every case.
+pub const BOX: u64 = 0x0200_0000_0031;
+const EVERYONE: u64 = 0x0180_C200_0001;
+
+/// Where a box's words have its transmitter, and the first of its grants.
+const LIGHT: usize = 8;
+const LIST: usize = 13;
+
+/// Words where fields and limits end.
+const EDGES: [u64; 20] = [
+    0,
+    1,
+    2,
+    3,
+    4,
+    16,
+    17,
+    42,
+    74,
+    65_535,
+    65_536,
+    131_072,
+    3_125_000,
+    62_500_000,
+    0x7FFF_FFFF,
+    u32::MAX as u64,
+    1 << 32,
+    1 << 48,
+    1 << 63,
+    u64::MAX,
+];
+
+/// A length: mostly the usual one, else any up to the longest.
+pub fn within(dice: &mut Dice, usual: usize, longest: usize) -> usize {
+    match dice.chance(500) {
+        true => usual,
+        false => dice.below(longest as u64 + 1) as usize,
+    }
+}
+
+/// An address: a party's, another box's, or none.
+pub fn address(dice: &mut Dice) -> u64 {
+    let box_near = BOX + dice.below(70);
+    let any = dice.word();
+    dice.pick(&[HEAD, BOX, BOX, box_near, EVERYONE, 0, any, any >> 16])
+}
+
+/// Sets one word to another, often where a field ends.
+pub fn spoil(dice: &mut Dice, words: &mut [u64]) {
+    let at = dice.below(words.len() as u64) as usize;
+    if let Some(word) = words.get_mut(at) {
+        *word = match dice.below(6) {
+            0 => dice.word(),
+            1 => u64::from(dice.half()),
+            2 => word.wrapping_add(1),
+            3 => word.wrapping_sub(1),
+            _ => dice.pick(&EDGES),
+        };
+    }
+}
+
+/// Sets a box's transmitter to any phase, close to its end.
+pub fn relight(dice: &mut Dice, block: &mut [u64]) {
+    let (phase, left) = (dice.below(8), 1 + dice.below(3));
+    let grant = dice.pick(&[0, 74, 100, block[LIST]]);
+    block[LIGHT..][..4].copy_from_slice(&[phase, left, grant, 0]);
+}
+
+/// Octets to be heard: a frame that was handed out, one made up, a damaged
+/// one, or noise of any length.
+pub fn frame(dice: &mut Dice, kept: &[Vec<u8>]) -> Vec<u8> {
+    let mut octets = match dice.below(10) {
+        0..=4 if !kept.is_empty() => kept[dice.below(kept.len() as u64) as usize].clone(),
+        9 => (0..dice.below(70)).map(|_| dice.half() as u8).collect(),
+        _ => made_up(dice),
+    };
+    if dice.chance(100) {
+        if let Some(octet) = octets.get_mut(dice.below(60) as usize) {
+            *octet ^= 1 << dice.below(8);
+        }
+    }
+    if dice.chance(50) {
+        let length = within(dice, 59, 70);
+        octets.resize(length, 0);
+    }
+    octets
+}
+
+fn made_up(dice: &mut Dice) -> Vec<u8> {
+    let body = body(dice);
+    let (to, from) = (address(dice) % (1 << 48), address(dice) % (1 << 48));
+    let stamp = dice.below(2000) as u32;
+    let message = Message::new(to, from, stamp, &body);
+    let frame = message.and_then(|message| message.write().ok());
+    frame.map_or_else(Vec::new, |frame| frame.to_vec())
+}
+
+fn body(dice: &mut Dice) -> Body {
+    let granted = Granted {
+        grant: Grant {
+            start: dice.below(3000) as u32,
+            length: dice.below(400) as u32,
+        },
+        force: dice.chance(200),
+    };
+    let (port, sync) = (dice.below(70) as u16, dice.below(80) as u32);
+    let pending = dice.half() as u8;
+    let register = |flag| Body::Register {
+        flag,
+        port,
+        sync,
+        pending,
+    };
+    match dice.below(10) {
+        0 | 1 => Body::Gate(vec![granted; dice.below(5) as usize]),
+        2 => Body::Discovery { granted, sync },
+        3 => Body::Report,
+        4 => Body::RegisterReq {
+            flag: dice.pick(&[RequestFlag::Register, RequestFlag::Deregister]),
+            pending,
+        },
+        5 => Body::RegisterAck {
+            flag: dice.pick(&[AckFlag::Ack, AckFlag::Nack]),
+            port,
+            sync,
+        },
+        6 => register(RegisterFlag::Reregister),
+        7 => register(RegisterFlag::Deregister),
+        8 => register(RegisterFlag::Ack),
+        _ => register(RegisterFlag::Nack),
+    }
+}

@@ -1,0 +1,69 @@
+//! What the header promises of every call, whatever it is handed.
+
+mod frames;
+mod on_box;
+mod on_head;
+
+pub use frames::{judge_read, judge_write};
+pub use on_box::{judge_box, judge_next, BoxLent};
+pub use on_head::{judge_head, HeadLent};
+
+use proved::Refusal;
+
+/// What a call left, once it was judged.
+#[derive(Clone, Debug, Default, PartialEq, Eq)]
+pub struct Left {
+    /// The number that it answered.
+    pub number: u8,
+    /// The block of box or head.
+    pub block: Vec<u64>,
+    /// The head's table.
+    pub links: Vec<u64>,
+    /// The words that it told.
+    pub reply: Vec<u64>,
+    /// The octets of its frames.
+    pub frames: Vec<u8>,
+}
+
+/// Two fillers for memory that a call has no business to look at: each call
+/// is made with both, and must answer the same.
+const FILLERS: [u8; 2] = [0xEE, 0x11];
+
+const DONE: u8 = 0;
+const SHORT: u8 = Refusal::Short as u8;
+const UNSOUND: u8 = Refusal::Unsound as u8;
+
+fn require(holds: bool, broken: &str) -> Result<(), String> {
+    if holds {
+        Ok(())
+    } else {
+        Err(broken.to_owned())
+    }
+}
+
+/// A filler as a word.
+fn word(filler: u8) -> u64 {
+    u64::from_ne_bytes([filler; 8])
+}
+
+/// The number is the card's, and 100 exactly where too little was lent.
+fn require_number(number: u8, short: bool) -> Result<(), String> {
+    let known = number == DONE || Refusal::of(number).is_some();
+    require(known, "the number isn't of the card")?;
+    let told = if short { "isn't" } else { "is" };
+    require(
+        (number == SHORT) == short,
+        &format!("the answer {told} 100, for what was lent"),
+    )
+}
+
+/// What a call answers, with each filler: the same.
+fn both(mut judged: impl FnMut(u8) -> Result<Left, String>) -> Result<Left, String> {
+    let [first, second] = FILLERS.map(&mut judged);
+    let (first, second) = (first?, second?);
+    require(
+        first == second,
+        "the answer rests on memory behind what is used",
+    )?;
+    Ok(first)
+}

@@ -1,0 +1,175 @@
+//! Calls of the box.
+
+use super::{both, require, require_number, word, Left, DONE, SHORT, UNSOUND};
+use crate::call::{BoxCall, Face};
+use crate::guarded::Guarded;
+use proved::sys::{BoxMemory, BOX_FRAMES_OCTETS, BOX_REPLY_WORDS, BOX_WORDS, FRAME_OCTETS};
+
+/// A block, and how much is lent: words, octets, words.
+#[derive(Clone, Debug, PartialEq, Eq)]
+pub struct BoxLent {
+    /// The block.
+    pub block: Vec<u64>,
+    /// Words of the block.
+    pub words: usize,
+    /// Octets for frames.
+    pub frames: usize,
+    /// Words for the reply.
+    pub reply: usize,
+}
+
+impl BoxLent {
+    /// This block, with as much lent as is needed.
+    pub fn enough(block: &[u64]) -> BoxLent {
+        BoxLent {
+            block: block.to_vec(),
+            words: BOX_WORDS,
+            frames: BOX_FRAMES_OCTETS,
+            reply: BOX_REPLY_WORDS,
+        }
+    }
+
+    fn is_short(&self) -> bool {
+        self.words < BOX_WORDS || self.frames < BOX_FRAMES_OCTETS || self.reply < BOX_REPLY_WORDS
+    }
+}
+
+/// The memory of a call, with its guards.
+struct Memory {
+    block: Guarded<u64>,
+    frames: Guarded<u8>,
+    reply: Guarded<u64>,
+}
+
+const DRIFT: usize = 0;
+const FRAMES: usize = 1;
+const NOTICES: usize = 2;
+const NOTICE: usize = 4;
+const GRANT: u64 = 6;
+const LAST_KIND: u64 = 8;
+
+/// Makes a call of a box and holds it against the header.
+pub fn judge_box(face: &dyn Face, call: &BoxCall, lent: &BoxLent) -> Result<Left, String> {
+    let left = both(|filler| judge_with(face, call, lent, filler))?;
+    if left.number == DONE && *call != BoxCall::Tick {
+        // Every call leaves a sound box.
+        let again = judge_box(face, &BoxCall::Tick, &BoxLent::enough(&left.block))?;
+        require(again.number != UNSOUND, "a call left an unsound box")?;
+    }
+    Ok(left)
+}
+
+fn judge_with(face: &dyn Face, call: &BoxCall, lent: &BoxLent, filler: u8) -> Result<Left, String> {
+    let mut memory = Memory {
+        block: Guarded::new(&lent.block, lent.words, word(filler)),
+        frames: Guarded::new(&[], lent.frames, filler),
+        reply: Guarded::new(&[], lent.reply, word(filler)),
+    };
+    let number = face.on_box(
+        call,
+        BoxMemory {
+            block: memory.block.lend(),
+            frames: memory.frames.lend(),
+            reply: memory.reply.lend(),
+        },
+    );
+    require_number(number, lent.is_short())?;
+    match number {
+        SHORT => memory.require_untouched()?,
+        DONE => memory.require_told(call)?,
+        _ => memory.require_refused(call)?,
+    }
+    Ok(memory.left(number, &lent.block))
+}
+
+impl Memory {
+    fn require_untouched(&self) -> Result<(), String> {
+        let kept = self.block.is_kept() && self.frames.is_kept() && self.reply.is_kept();
+        require(kept, "too little was lent, and something was touched")
+    }
+
+    fn require_behind(&self, frames: usize) -> Result<(), String> {
+        let behind = self.block.is_kept_from(BOX_WORDS)
+            && self.reply.is_kept_from(BOX_REPLY_WORDS)
+            && self.frames.is_kept_from(FRAME_OCTETS * frames);
+        require(behind, "what lies behind the part that is used was touched")
+    }
+
+    /// A refusal tells nothing and changes nothing; a fresh box is then one of
+    /// zeros.
+    fn require_refused(&self, call: &BoxCall) -> Result<(), String> {
+        self.require_behind(0)?;
+        let told = self.reply.now()[..BOX_REPLY_WORDS] != [0; BOX_REPLY_WORDS];
+        require(!told, "a refusal told something")?;
+        match call {
+            BoxCall::Fresh(_) => require(
+                self.block.now()[..BOX_WORDS] == [0; BOX_WORDS],
+                "a refused fresh box isn't zeros",
+            ),
+            _ => require(self.block.is_kept(), "a refusal changed the box"),
+        }
+    }
+
+    fn require_told(&self, call: &BoxCall) -> Result<(), String> {
+        let reply = self.reply.now();
+        require(reply[FRAMES] <= 2, "more than two frames")?;
+        self.require_behind(reply[FRAMES] as usize)?;
+        let heard = matches!(call, BoxCall::Hear(..));
+        require(heard || reply[DRIFT] == 0, "a drift without a message")?;
+        let distance = i32::try_from(reply[DRIFT] as i64).is_ok();
+        require(distance, "a drift that is no distance")?;
+        let mut ended = false;
+        for notice in reply[NOTICES..BOX_REPLY_WORDS].chunks_exact(NOTICE) {
+            ended |= notice[0] == 0;
+            let grant = notice[0] == GRANT && notice[3] <= 1;
+            let blank = grant || notice[1..] == [0; 3];
+            let known = notice[0] <= LAST_KIND && !(ended && notice[0] != 0);
+            require(known && blank, "a notice that is none")?;
+        }
+        Ok(())
+    }
+
+    fn left(&self, number: u8, block: &[u64]) -> Left {
+        if number == SHORT {
+            return Left {
+                number,
+                block: block.to_vec(),
+                ..Left::default()
+            };
+        }
+        let reply = self.reply.now();
+        Left {
+            number,
+            block: self.block.now()[..BOX_WORDS].to_vec(),
+            links: Vec::new(),
+            reply: reply[..BOX_REPLY_WORDS].to_vec(),
+            frames: self.frames.now()[..FRAME_OCTETS * reply[FRAMES] as usize].to_vec(),
+        }
+    }
+}
+
+/// Asks for the next frame to send and holds the answer against the header.
+pub fn judge_next(
+    face: &dyn Face,
+    lent: &BoxLent,
+    control: usize,
+    data: usize,
+) -> Result<Left, String> {
+    both(|filler| {
+        let mut block = Guarded::new(&lent.block, lent.words, word(filler));
+        let (control, data) = (vec![filler; control], vec![filler; data]);
+        let number = face.next_to_send(block.lend(), &control, &data);
+        let short = lent.words < BOX_WORDS;
+        require(block.is_kept(), "asking for the next frame changed the box")?;
+        require(
+            number <= 2 && !short || number == SHORT && short,
+            "the next frame is none of three",
+        )?;
+        let empty = number == 1 && control.is_empty() || number == 2 && data.is_empty();
+        require(!empty, "an empty frame is next")?;
+        Ok(Left {
+            number,
+            ..Left::default()
+        })
+    })
+}

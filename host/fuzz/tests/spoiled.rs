@@ -1,0 +1,161 @@
+//! The fuzzer finds a face that breaks a promise, and reaches every number.
+
+use fuzz::{fuzz, BoxCall, Face, HeadCall, Library};
+use proved::sys::{BoxMemory, HeadMemory};
+use std::cell::Cell;
+
+/// What is wrong with a spoiled face.
+#[derive(Clone, Copy, Debug, PartialEq, Eq)]
+enum Flaw {
+    None,
+    /// A number that isn't of the card.
+    StrangeNumber,
+    /// A refused call counts the tick all the same.
+    RefusalCounts,
+    /// Short memory is touched.
+    ShortIsTouched,
+    /// An octet behind the last frame is written.
+    StrayOctet,
+    /// A word behind the last link is written.
+    StrayLink,
+    /// A refusal of the head tells of a frame.
+    RefusalTells,
+    /// A box is left with a timer that no state runs.
+    LeavesUnsound,
+    /// Answers turn on something that isn't handed in.
+    Moody,
+    /// A refused message leaves octets.
+    HalfWritten,
+    /// The reader fills words behind the message.
+    ReadsOn,
+    /// A data frame of no octets goes next.
+    SendsNothing,
+}
+
+struct Spoiled {
+    flaw: Flaw,
+    calls: Cell<u64>,
+}
+
+impl Spoiled {
+    fn is(&self, flaw: Flaw) -> bool {
+        self.flaw == flaw
+    }
+}
+
+impl Face for Spoiled {
+    fn on_box(&self, call: &BoxCall, mut memory: BoxMemory<'_>) -> u8 {
+        let BoxMemory {
+            block,
+            frames,
+            reply,
+        } = &mut memory;
+        let number = Library.on_box(
+            call,
+            BoxMemory {
+                block,
+                frames,
+                reply,
+            },
+        );
+        self.calls.set(self.calls.get() + 1);
+        match (self.flaw, number) {
+            (Flaw::StrangeNumber, 7) => return 15,
+            (Flaw::RefusalCounts, 7) => memory.block[1] ^= 1,
+            (Flaw::ShortIsTouched, 100) => memory.reply.iter_mut().for_each(|word| *word = 0),
+            (Flaw::StrayOctet, 0) => memory.frames[119] = 0,
+            (Flaw::LeavesUnsound, 0) if *call == BoxCall::Register => memory.block[3] = 1,
+            (Flaw::Moody, 0) => memory.block[1] ^= self.calls.get() & 1,
+            _ => {}
+        }
+        number
+    }
+
+    fn on_head(&self, call: &HeadCall, mut memory: HeadMemory<'_>) -> u8 {
+        let HeadMemory {
+            head,
+            links,
+            output,
+            reply,
+        } = &mut memory;
+        let number = Library.on_head(
+            call,
+            HeadMemory {
+                head,
+                links,
+                output,
+                reply,
+            },
+        );
+        let behind = memory.links.len() / 5 * 5;
+        match memory.links.get_mut(behind) {
+            Some(word) if self.is(Flaw::StrayLink) && number == 0 => *word = 0,
+            _ => {}
+        }
+        if self.is(Flaw::RefusalTells) && number == 6 {
+            memory.reply[0] = 1;
+        }
+        number
+    }
+
+    fn next_to_send(&self, block: &[u64], control: &[u8], data: &[u8]) -> u8 {
+        match Library.next_to_send(block, control, data) {
+            0 if self.is(Flaw::SendsNothing) => 2,
+            number => number,
+        }
+    }
+
+    fn read(&self, octets: &[u8], message: &mut [u64]) -> u8 {
+        if self.is(Flaw::ReadsOn) && message.len() > 17 {
+            message[17] = 0;
+        }
+        Library.read(octets, message)
+    }
+
+    fn write(&self, message: &[u64], octets: &mut [u8]) -> u8 {
+        let number = Library.write(message, octets);
+        if self.is(Flaw::HalfWritten) && number == 4 {
+            octets[12] = 0x88;
+        }
+        number
+    }
+}
+
+fn spoiled(flaw: Flaw) -> Spoiled {
+    Spoiled {
+        flaw,
+        calls: Cell::new(0),
+    }
+}
+
+#[test]
+fn each_flaw_is_found() {
+    for flaw in [
+        Flaw::StrangeNumber,
+        Flaw::RefusalCounts,
+        Flaw::ShortIsTouched,
+        Flaw::StrayOctet,
+        Flaw::StrayLink,
+        Flaw::RefusalTells,
+        Flaw::LeavesUnsound,
+        Flaw::Moody,
+        Flaw::HalfWritten,
+        Flaw::ReadsOn,
+        Flaw::SendsNothing,
+    ] {
+        let face = spoiled(flaw);
+        let found = (0..200).any(|seed| fuzz(&face, seed, &mut [0; 256]).is_err());
+        assert!(found, "{flaw:?}");
+    }
+}
+
+#[test]
+fn every_number_is_reached_and_nothing_is_found() {
+    let (face, mut tally) = (spoiled(Flaw::None), [0; 256]);
+    for seed in 0..2000 {
+        fuzz(&face, seed, &mut tally).unwrap();
+    }
+    for number in (0..=14).chain([100]) {
+        assert!(tally[number] > 0, "no call answers {number}");
+    }
+}
