@@ -1,24 +1,24 @@
-//! `bench`: a table of how long calls of head and box take.
+//! `bench`: how long calls take, of the proved library and of the independent
+//! program, side by side.
 
+mod boxes;
+mod frames;
+mod heads;
 mod measure;
-mod plain_column;
 
 use measure::Row;
 use std::process::ExitCode;
 
-/// A column: a core's name and its measurements.
-type Column = (&'static str, fn() -> Vec<Row>);
-
-/// Every column of the table. A further core is a line here; its rows come in
-/// the same order.
-const COLUMNS: &[Column] = &[("plain", plain_column::rows)];
-
 const HELP: &str = "\
 Usage: bench
 
-Measures calls of head and box, without the tools' trait between, and prints a
-table of times a call: the median of 101 short runs. Build it for release:
-cargo run --release -p bench";
+Measures the same calls with the same inputs on the proved library and on the
+independent program in plain Rust, and prints a table: time a call of each, and
+how many times as long the proved one takes. Runs of the two take turns; a time
+is the median of 101 short runs, of the simulated second of 5.
+
+Build it for release: `./bench` at the repository's root does, and so does
+`cargo run --release -p bench`.";
 
 fn main() -> ExitCode {
     match std::env::args().nth(1).as_deref() {
@@ -41,17 +41,8 @@ fn print_table() {
     if cfg!(debug_assertions) {
         println!("Not built for release: these times say little.\n");
     }
-    let columns: Vec<Vec<Row>> = COLUMNS.iter().map(|(_, rows)| rows()).collect();
-    print!("{:<44}", "");
-    for (name, _) in COLUMNS {
-        print!("{name:>14}");
-    }
-    println!();
-    for (place, row) in columns[0].iter().enumerate() {
-        print!("{:<44}", row.name);
-        for column in &columns {
-            print!("{:>14}", column[place].text());
-        }
-        println!();
+    println!("{:<44}{:>12}{:>12}{:>9}", "", "proved", "plain", "ratio");
+    for rows in [frames::rows, boxes::rows, heads::rows] {
+        rows().iter().for_each(Row::print);
     }
 }

@@ -1,0 +1,119 @@
+//! Ticks of a box.
+
+use crate::measure::Row;
+use plain::{Address, BoxState};
+use std::hint::black_box;
+
+/// The box of the measurements, and the first of many.
+pub const BOX: u64 = 0x0200_0000_0031;
+
+/// Ticks after which a box is set back, so that what is measured lasts.
+const TICKS: u32 = 50_000;
+
+/// The same box for both.
+#[derive(Clone, Copy)]
+pub struct Pair {
+    /// For the proved library.
+    pub proved: proved::FloorBox,
+    /// For the independent program.
+    pub plain: plain::FloorBox,
+}
+
+/// A row for each box.
+pub fn rows() -> Vec<Row> {
+    let quiet = pair(BOX, BoxState::Wait, 0);
+    let waiting = pair(BOX, BoxState::Requesting, 0);
+    let lit = pair(BOX, BoxState::Registered, 60_000);
+    [
+        ("box tick, quiet", quiet),
+        ("box tick, waiting for REGISTER", waiting),
+        ("box tick, lit", lit),
+    ]
+    .map(|(name, Pair { proved, plain })| {
+        let mut proved = Kept::new(proved);
+        let mut plain = Kept::new(plain);
+        Row::short(
+            name,
+            move || {
+                black_box(&proved.next().tick());
+            },
+            move || {
+                black_box(&plain.next().tick());
+            },
+        )
+    })
+    .into()
+}
+
+/// A registered box.
+pub fn registered(address: u64) -> Pair {
+    pair(address, BoxState::Registered, 0)
+}
+
+/// A box in this state; `window` ticks are left of a grant's window, if any.
+fn pair(address: u64, state: BoxState, window: u32) -> Pair {
+    let registered = state == BoxState::Registered;
+    let plain = plain::FloorBox {
+        address: Address(address),
+        state,
+        wait: if state == BoxState::Requesting {
+            3_125_000
+        } else {
+            0
+        },
+        watchdog: if registered { 62_500_000 } else { 0 },
+        report: if registered { 3_125_000 } else { 0 },
+        light: match window {
+            0 => plain::Light::Rest,
+            left => plain::Light::Open { left },
+        },
+        ..plain::FloorBox::default()
+    };
+    let parts = proved::BoxParts {
+        address,
+        count: 0,
+        state: match state {
+            BoxState::Wait => proved::BoxState::Wait,
+            BoxState::Registering => proved::BoxState::Registering,
+            BoxState::Requesting => proved::BoxState::Requesting,
+            BoxState::Registered => proved::BoxState::Registered,
+        },
+        wait: plain.wait,
+        watchdog: plain.watchdog,
+        report: plain.report,
+        port: 0,
+        sync: 0,
+        light: match window {
+            0 => proved::Light::Rest,
+            left => proved::Light::Open { left },
+        },
+        grants: Vec::new(),
+    };
+    let proved = proved::FloorBox::restored(&parts).expect("it is sound");
+    Pair { proved, plain }
+}
+
+/// A box that is set back now and then.
+struct Kept<B> {
+    whole: B,
+    now: B,
+    ticks: u32,
+}
+
+impl<B: Copy> Kept<B> {
+    fn new(whole: B) -> Kept<B> {
+        Kept {
+            whole,
+            now: whole,
+            ticks: 0,
+        }
+    }
+
+    fn next(&mut self) -> &mut B {
+        self.ticks += 1;
+        if self.ticks == TICKS {
+            (self.now, self.ticks) = (self.whole, 0);
+        }
+        black_box(&mut self.now)
+    }
+}
