@@ -1,0 +1,354 @@
+/* A libFuzzer target: an input is a run of calls on a box and a head, with lengths, words and octets taken from it, and each call is held
+ * against what crustnewt.h promises of every call.
+ *
+ * The library isn't instrumented, so the fuzzer can't see which of its branches were taken. Counters tell it instead which call gave which
+ * number in which state with which frames and notices: an input that brings about a new one is kept and built upon. */
+#include <stdio.h>
+#include <stdlib.h>
+#include <string.h>
+
+#include "crustnewt.h"
+
+#define LINKS 66
+#define GUARD 16
+#define COUNTERS 16384
+
+/* Everything that is lent, with guards between. */
+struct memory {
+    uint64_t box[CRUSTNEWT_BOX_WORDS + GUARD];
+    uint64_t head[CRUSTNEWT_HEAD_WORDS + GUARD];
+    uint64_t links[CRUSTNEWT_LINK_WORDS * LINKS + GUARD];
+    uint64_t reply[CRUSTNEWT_BOX_REPLY_WORDS + GUARD];
+    uint64_t message[CRUSTNEWT_MESSAGE_WORDS + GUARD];
+    uint8_t output[CRUSTNEWT_FRAME_OCTETS * LINKS + GUARD];
+    uint8_t heard[CRUSTNEWT_FRAME_OCTETS + GUARD];
+};
+
+static struct memory now, before;
+static size_t links, heard_octets;
+static const uint8_t *input;
+static size_t input_left;
+
+__attribute__((section("__libfuzzer_extra_counters"))) static uint8_t counters[COUNTERS];
+
+static void require(int holds, const char *promise)
+{
+    if (!holds) {
+        fprintf(stderr, "broken: %s\n", promise);
+        abort();
+    }
+}
+
+static uint8_t take(void)
+{
+    if (input_left == 0)
+        return 0;
+    input_left--;
+    return *input++;
+}
+
+static uint64_t take_number(unsigned octets)
+{
+    uint64_t number = 0;
+
+    while (octets-- > 0)
+        number = number << 8 | take();
+    return number;
+}
+
+/* A word, often one where a field ends. */
+static uint64_t take_word(void)
+{
+    static const uint64_t edges[] = {0, 1, 2, 3, 7, 16, 17, 42, 74, 65535, 65536, 131072, 3125000, 62500000, 0x7FFFFFFF, 0xFFFFFFFF,
+                                     (uint64_t)1 << 32, (uint64_t)1 << 48, UINT64_MAX};
+    uint8_t choice = take();
+
+    if (choice < sizeof edges / sizeof *edges)
+        return edges[choice];
+    return take_number(choice % 8 + 1);
+}
+
+/* The length needed, or another around it. */
+static size_t take_length(size_t needed)
+{
+    uint8_t choice = take();
+
+    if (choice < 224)
+        return needed;
+    return choice % 8 + needed < 4 ? 0 : needed + choice % 8 - 4;
+}
+
+static uint64_t take_address(void)
+{
+    switch (take() % 4) {
+    case 0:
+        return 0x020000000001;
+    case 1:
+        return 0x0180C2000001;
+    case 2:
+        return take_word();
+    default:
+        return 0x020000000031 + take() % LINKS;
+    }
+}
+
+/* What a call may change: from here on it isn't compared. */
+static void allow(void *part, size_t octets)
+{
+    size_t offset = (size_t)((uint8_t *)part - (uint8_t *)&now);
+
+    memcpy((uint8_t *)&before + offset, part, octets);
+}
+
+static void require_kept(const char *promise)
+{
+    require(memcmp(&now, &before, sizeof now) == 0, promise);
+}
+
+static void require_zero(const uint64_t *words, size_t number, const char *promise)
+{
+    while (number > 0)
+        require(words[--number] == 0, promise);
+}
+
+static void count(unsigned call, uint64_t number, uint64_t state, uint64_t frames, uint64_t notice)
+{
+    uint64_t place = call;
+
+    place = place * 16 + number % 16;
+    place = place * 32 + state % 32;
+    place = place * 3 + (frames > 1 ? 2 : frames);
+    place = place * 9 + notice % 9;
+    place *= 0x9E3779B97F4A7C15;
+    if (++counters[place >> 50] == 0)
+        counters[place >> 50] = 255;
+}
+
+/* The number is the card's, and 100 exactly where too little was lent. */
+static void judge_number(uint8_t number, int is_short)
+{
+    require(number <= CRUSTNEWT_WINDOW || number == CRUSTNEWT_SHORT, "the number is of the card");
+    require((number == CRUSTNEWT_SHORT) == (is_short != 0), "100 is answered exactly where too little is lent");
+    if (number == CRUSTNEWT_SHORT)
+        require_kept("too little lent is not touched");
+}
+
+static void hand_over(const uint8_t *frame)
+{
+    memcpy(now.heard, frame, CRUSTNEWT_FRAME_OCTETS);
+    heard_octets = CRUSTNEWT_FRAME_OCTETS;
+}
+
+static void judge_box(unsigned call, uint8_t number, int is_short)
+{
+    uint64_t frames = now.reply[CRUSTNEWT_BOX_REPLY_FRAMES];
+
+    judge_number(number, is_short);
+    if (number == CRUSTNEWT_SHORT)
+        return;
+    allow(now.reply, CRUSTNEWT_BOX_REPLY_WORDS * sizeof *now.reply);
+    if (number == CRUSTNEWT_DONE || call == 0)
+        allow(now.box, CRUSTNEWT_BOX_WORDS * sizeof *now.box);
+    if (number != CRUSTNEWT_DONE)
+        require_zero(now.reply, CRUSTNEWT_BOX_REPLY_WORDS, "a refusal tells nothing");
+    require(frames <= 2, "a box hands out two frames at most");
+    allow(now.output, (size_t)frames * CRUSTNEWT_FRAME_OCTETS);
+    require_kept("a refusal changes nothing, and what isn't used stays");
+    count(call, number, now.box[CRUSTNEWT_BOX_STATE] * 8 + now.box[CRUSTNEWT_BOX_LIGHT], frames,
+          now.reply[CRUSTNEWT_BOX_REPLY_NOTICES]);
+    if (frames > 0)
+        hand_over(now.output + (frames - 1) * CRUSTNEWT_FRAME_OCTETS);
+}
+
+static void call_box(unsigned call)
+{
+    size_t words = take_length(CRUSTNEWT_BOX_WORDS), octets = take_length(CRUSTNEWT_BOX_FRAMES_OCTETS);
+    size_t told = take_length(CRUSTNEWT_BOX_REPLY_WORDS);
+    uint64_t address = call == 0 ? take_address() : 0;
+    uint32_t random = call == 3 ? (uint32_t)take_number(2) : 0;
+    uint8_t number;
+
+    before = now;
+    if (call == 0)
+        number = crustnewt_box_fresh(address, now.box, words, now.output, octets, now.reply, told);
+    else if (call == 1)
+        number = crustnewt_box_register(now.box, words, now.output, octets, now.reply, told);
+    else if (call == 2)
+        number = crustnewt_box_deregister(now.box, words, now.output, octets, now.reply, told);
+    else if (call == 3)
+        number = crustnewt_box_hear(now.heard, heard_octets, random, now.box, words, now.output, octets, now.reply, told);
+    else
+        number = crustnewt_box_tick(now.box, words, now.output, octets, now.reply, told);
+    judge_box(call, number,
+              words < CRUSTNEWT_BOX_WORDS || octets < CRUSTNEWT_BOX_FRAMES_OCTETS || told < CRUSTNEWT_BOX_REPLY_WORDS);
+}
+
+static void call_next(void)
+{
+    size_t words = take_length(CRUSTNEWT_BOX_WORDS), control = take() % 61, data = take() % 61;
+    uint8_t number;
+
+    before = now;
+    number = crustnewt_box_next_to_send(now.box, words, now.heard, control, now.output, data);
+    require(number <= 2 || number == CRUSTNEWT_SHORT, "the next frame is one of three");
+    require((number == CRUSTNEWT_SHORT) == (words < CRUSTNEWT_BOX_WORDS), "100 is answered exactly where too little is lent");
+    require_kept("asking for the next frame changes nothing");
+}
+
+static void judge_head(unsigned call, uint8_t number, int is_short)
+{
+    uint64_t frames = now.reply[CRUSTNEWT_HEAD_REPLY_FRAMES];
+
+    judge_number(number, is_short);
+    if (number == CRUSTNEWT_SHORT)
+        return;
+    allow(now.reply, CRUSTNEWT_HEAD_REPLY_WORDS * sizeof *now.reply);
+    if (number == CRUSTNEWT_DONE || call == 10)
+        allow(now.head, CRUSTNEWT_HEAD_WORDS * sizeof *now.head);
+    if (number == CRUSTNEWT_DONE)
+        allow(now.links, links * CRUSTNEWT_LINK_WORDS * sizeof *now.links);
+    else
+        require_zero(now.reply, CRUSTNEWT_HEAD_REPLY_WORDS, "a refusal tells nothing");
+    require(frames <= links, "a head hands out a frame a link at most");
+    allow(now.output, (size_t)frames * CRUSTNEWT_FRAME_OCTETS);
+    require_kept("a refusal changes nothing, and what isn't used stays");
+    require(number != CRUSTNEWT_DONE || (links >= 1 && links <= CRUSTNEWT_MOST_LINKS), "only 1 to 64 links are served");
+    count(call, number, now.head[CRUSTNEWT_HEAD_WINDOW] * 4 + now.links[CRUSTNEWT_LINK_STATE], frames,
+          now.reply[CRUSTNEWT_HEAD_REPLY_NOTICE]);
+    if (frames > 0)
+        hand_over(now.output + (frames - 1) * CRUSTNEWT_FRAME_OCTETS);
+}
+
+#define LENT now.head, words, now.links, table, now.output, octets, now.reply, told
+
+static uint8_t make_head_call(unsigned call, size_t words, size_t table, size_t octets, size_t told)
+{
+    uint64_t grants[6], address = take_address();
+    uint8_t small = take();
+    uint32_t sync = (uint32_t)take_number(1), start = (uint32_t)now.head[CRUSTNEWT_HEAD_COUNT] + take();
+    size_t link = take() % (LINKS + 1);
+
+    for (unsigned i = 0; i < 6; i++)
+        grants[i] = (uint64_t)start << 32 | take_number(2);
+    before = now;
+    switch (call) {
+    case 10:
+        return crustnewt_head_fresh(address, now.head, words, now.links, table, now.reply, told);
+    case 11:
+        return crustnewt_head_open(start, 74 + sync + small, sync, small, LENT);
+    case 12:
+        return crustnewt_head_admit(address, small, sync, LENT);
+    case 13:
+        return crustnewt_head_reject(address, small, sync, LENT);
+    case 14:
+        return crustnewt_head_reregister(link, sync, LENT);
+    case 15:
+        return crustnewt_head_deregister(link, LENT);
+    case 16:
+        return crustnewt_head_gate(link, grants, sync % 7, small, LENT);
+    case 17:
+        return crustnewt_head_hear(link, now.heard, heard_octets, LENT);
+    default:
+        return crustnewt_head_tick(LENT);
+    }
+}
+
+static void call_head(unsigned call)
+{
+    size_t words = take_length(CRUSTNEWT_HEAD_WORDS), told = take_length(CRUSTNEWT_HEAD_REPLY_WORDS);
+    size_t octets = take_length(links * CRUSTNEWT_FRAME_OCTETS), table = links * CRUSTNEWT_LINK_WORDS + take() % CRUSTNEWT_LINK_WORDS;
+    uint8_t number = make_head_call(call, words, table, octets, told);
+
+    judge_head(call, number, words < CRUSTNEWT_HEAD_WORDS || told < CRUSTNEWT_HEAD_REPLY_WORDS);
+    if (number == CRUSTNEWT_DONE && call != 10)
+        require(octets >= links * CRUSTNEWT_FRAME_OCTETS, "a short output isn't served");
+}
+
+static void call_read(void)
+{
+    size_t words = take_length(CRUSTNEWT_MESSAGE_WORDS);
+    uint8_t number;
+
+    before = now;
+    number = crustnewt_read(now.heard, heard_octets, now.message, words);
+    judge_number(number, words < CRUSTNEWT_MESSAGE_WORDS);
+    if (number == CRUSTNEWT_SHORT)
+        return;
+    allow(now.message, CRUSTNEWT_MESSAGE_WORDS * sizeof *now.message);
+    require_kept("reading changes the message alone");
+    count(20, number, now.message[CRUSTNEWT_MESSAGE_KIND], 0, now.message[CRUSTNEWT_MESSAGE_BODY]);
+    if (number != CRUSTNEWT_DONE) {
+        require(now.message[CRUSTNEWT_MESSAGE_KIND] == CRUSTNEWT_MESSAGE_REPORT, "a refused frame is a REPORT");
+        now.message[CRUSTNEWT_MESSAGE_KIND] = 0;
+        require_zero(now.message, CRUSTNEWT_MESSAGE_WORDS, "a refused frame has no words");
+    }
+}
+
+static void call_write(void)
+{
+    size_t words = take_length(CRUSTNEWT_MESSAGE_WORDS), octets = take_length(CRUSTNEWT_FRAME_OCTETS);
+    uint8_t number;
+
+    before = now;
+    number = crustnewt_write(now.message, words, now.heard, octets);
+    judge_number(number, words < CRUSTNEWT_MESSAGE_WORDS || octets < CRUSTNEWT_FRAME_OCTETS);
+    if (number == CRUSTNEWT_SHORT)
+        return;
+    allow(now.heard, CRUSTNEWT_FRAME_OCTETS);
+    require_kept("writing changes the frame alone");
+    heard_octets = CRUSTNEWT_FRAME_OCTETS;
+    count(21, number, now.message[CRUSTNEWT_MESSAGE_KIND], 0, now.message[CRUSTNEWT_MESSAGE_BODY]);
+    for (unsigned i = 0; i < CRUSTNEWT_FRAME_OCTETS && number != CRUSTNEWT_DONE; i++)
+        require(now.heard[i] == 0, "a refused message is written as zeros");
+}
+
+/* Changes something that a later call is handed. */
+static void spoil(unsigned what)
+{
+    uint8_t place = take();
+
+    if (what == 0)
+        now.box[place % CRUSTNEWT_BOX_WORDS] = take_word();
+    else if (what == 1)
+        now.head[place % CRUSTNEWT_HEAD_WORDS] = take_word();
+    else if (what == 2)
+        now.links[place % (CRUSTNEWT_LINK_WORDS * 2)] = take_word();
+    else if (what == 3)
+        now.message[place % CRUSTNEWT_MESSAGE_WORDS] = place < 2 ? take_address() : take_word();
+    else if (what == 4)
+        now.heard[place % CRUSTNEWT_FRAME_OCTETS] = take();
+    else
+        heard_octets = place % (CRUSTNEWT_FRAME_OCTETS + GUARD + 1);
+}
+
+int LLVMFuzzerTestOneInput(const uint8_t *octets, size_t length)
+{
+    static const size_t tables[] = {1, 2, 3, 64, 65, 0};
+
+    input = octets;
+    input_left = length;
+    memset(&now, 0, sizeof now);
+    now.box[CRUSTNEWT_BOX_ADDRESS] = 0x020000000031;
+    now.head[CRUSTNEWT_HEAD_ADDRESS] = 0x020000000001;
+    heard_octets = 0;
+    links = tables[take() % 6];
+    while (input_left > 0) {
+        unsigned call = take() % 28;
+
+        if (call < 5)
+            call_box(call);
+        else if (call == 5)
+            call_next();
+        else if (call < 10)
+            call_box(call % 2 == 0 ? 4 : 3);
+        else if (call < 20)
+            call_head(call);
+        else if (call == 20)
+            call_read();
+        else if (call == 21)
+            call_write();
+        else
+            spoil(call - 22);
+    }
+    return 0;
+}
