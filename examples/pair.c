@@ -1,0 +1,188 @@
+/* A head and a floor box in one program, with a fibre of 50 quanta between them: the box registers, sends in the grant that it is given, and
+ * both clients hear of it. Prints what happens in which quantum; examples/pair.txt has it, worked out by hand. */
+#include <inttypes.h>
+#include <stdarg.h>
+#include <stdio.h>
+#include <stdlib.h>
+#include <string.h>
+
+#include "crustnewt.h"
+
+#define LINKS 4
+#define DELAY 50        /* quanta from end to end of the fibre */
+#define FRAME_QUANTA 42 /* that a frame takes to send */
+#define QUEUE 8
+#define QUANTA 800
+
+static const uint64_t head_address = 0x020000000001, box_address = 0x020000000031;
+
+static uint64_t head[CRUSTNEWT_HEAD_WORDS], links[LINKS * CRUSTNEWT_LINK_WORDS], head_reply[CRUSTNEWT_HEAD_REPLY_WORDS];
+static uint8_t output[LINKS * CRUSTNEWT_FRAME_OCTETS];
+static uint64_t box[CRUSTNEWT_BOX_WORDS], box_reply[CRUSTNEWT_BOX_REPLY_WORDS];
+static uint8_t frames[CRUSTNEWT_BOX_FRAMES_OCTETS];
+
+#define HEAD head, CRUSTNEWT_HEAD_WORDS, links, LINKS *CRUSTNEWT_LINK_WORDS
+#define HEAD_ALL HEAD, output, sizeof output, head_reply, CRUSTNEWT_HEAD_REPLY_WORDS
+#define BOX_ALL box, CRUSTNEWT_BOX_WORDS, frames, sizeof frames, box_reply, CRUSTNEWT_BOX_REPLY_WORDS
+
+static unsigned quantum;
+
+/* Frames in order, each with the quantum at which it arrives. */
+struct queue {
+    uint8_t frames[QUEUE][CRUSTNEWT_FRAME_OCTETS];
+    unsigned arrives[QUEUE];
+    unsigned length;
+};
+
+static struct queue down, up, waiting;
+
+static void say(const char *who, const char *what, ...)
+{
+    va_list rest;
+
+    printf("%5u  %-4s  ", quantum, who);
+    va_start(rest, what);
+    vprintf(what, rest);
+    va_end(rest);
+    printf("\n");
+}
+
+static void done(uint8_t number)
+{
+    if (number != CRUSTNEWT_DONE) {
+        say("both", "refused with %u", number);
+        exit(1);
+    }
+}
+
+static void put(struct queue *queue, const uint8_t *frame, unsigned arrives)
+{
+    if (queue->length == QUEUE) {
+        say("both", "more frames than there is room for");
+        exit(1);
+    }
+    memcpy(queue->frames[queue->length], frame, CRUSTNEWT_FRAME_OCTETS);
+    queue->arrives[queue->length++] = arrives;
+}
+
+/* Takes the first frame, if it has arrived. */
+static int take(struct queue *queue, uint8_t *frame)
+{
+    if (queue->length == 0 || queue->arrives[0] > quantum)
+        return 0;
+    memcpy(frame, queue->frames[0], CRUSTNEWT_FRAME_OCTETS);
+    queue->length--;
+    memmove(queue->frames[0], queue->frames[1], queue->length * CRUSTNEWT_FRAME_OCTETS);
+    memmove(queue->arrives, queue->arrives + 1, queue->length * sizeof *queue->arrives);
+    return 1;
+}
+
+/* What the reader makes of a frame. */
+static const char *kind(const uint8_t *frame)
+{
+    static const char *const kinds[] = {"GATE", "discovery GATE", "REPORT", "REGISTER_REQ", "REGISTER", "REGISTER_ACK"};
+    uint64_t message[CRUSTNEWT_MESSAGE_WORDS];
+
+    done(crustnewt_read(frame, CRUSTNEWT_FRAME_OCTETS, message, CRUSTNEWT_MESSAGE_WORDS));
+    return kinds[message[CRUSTNEWT_MESSAGE_KIND]];
+}
+
+/* What a call of the head told; its frames go onto the fibre at once. */
+static uint64_t head_told(uint8_t number)
+{
+    static const char *const notices[] = {"none", "request", "registered", "dropped", "report"};
+    uint64_t notice = head_reply[CRUSTNEWT_HEAD_REPLY_NOTICE];
+
+    done(number);
+    if (notice != CRUSTNEWT_HEAD_NOTICE_NONE)
+        say("head", "notice: %s, link %" PRIu64 ", round trip %" PRIu64, notices[notice], head_reply[CRUSTNEWT_HEAD_REPLY_LINK],
+            head_reply[CRUSTNEWT_HEAD_REPLY_TRIP]);
+    for (uint64_t i = 0; i < head_reply[CRUSTNEWT_HEAD_REPLY_FRAMES]; i++) {
+        say("head", "sends %s", kind(output + i * CRUSTNEWT_FRAME_OCTETS));
+        put(&down, output + i * CRUSTNEWT_FRAME_OCTETS, quantum + DELAY);
+    }
+    return notice;
+}
+
+/* What a call of the box told; its frames wait until they may be sent. */
+static void box_told(uint8_t number)
+{
+    static const char *const notices[] = {"none",  "window", "registered", "refused", "retry", "deregistered",
+                                          "grant", "open",   "close"};
+
+    done(number);
+    for (const uint64_t *notice = box_reply + CRUSTNEWT_BOX_REPLY_NOTICES; notice < box_reply + CRUSTNEWT_BOX_REPLY_WORDS; notice += 4)
+        if (notice[0] == CRUSTNEWT_BOX_NOTICE_GRANT)
+            say("box", "notice: grant, start %" PRIu64 ", length %" PRIu64, notice[1], notice[2]);
+        else if (notice[0] != CRUSTNEWT_BOX_NOTICE_NONE)
+            say("box", "notice: %s", notices[notice[0]]);
+    for (uint64_t i = 0; i < box_reply[CRUSTNEWT_BOX_REPLY_FRAMES]; i++) {
+        say("box", "hands out %s", kind(frames + i * CRUSTNEWT_FRAME_OCTETS));
+        put(&waiting, frames + i * CRUSTNEWT_FRAME_OCTETS, quantum);
+    }
+}
+
+/* The head's client: it admits whoever asks, and grants it 200 quanta, 220 from now. */
+static void admit(void)
+{
+    uint64_t grant = (head[CRUSTNEWT_HEAD_COUNT] + 220) << 32 | 200;
+
+    head_told(crustnewt_head_admit(box_address, 16, 10, HEAD_ALL));
+    head_told(crustnewt_head_gate(1, &grant, 1, 0, HEAD_ALL));
+}
+
+/* Hands over what has arrived. A box that asks to register comes on link 0; on a real fibre the preamble's tag tells the link. */
+static void deliver(void)
+{
+    uint8_t frame[CRUSTNEWT_FRAME_OCTETS];
+
+    while (take(&down, frame)) {
+        uint8_t number = crustnewt_box_hear(frame, sizeof frame, 250, BOX_ALL);
+
+        say("box", "hears %s, drift %" PRId64, kind(frame), (int64_t)box_reply[CRUSTNEWT_BOX_REPLY_DRIFT]);
+        box_told(number);
+    }
+    while (take(&up, frame)) {
+        size_t link = links[CRUSTNEWT_LINK_STATE] == CRUSTNEWT_LINK_STATE_IDLE ? 0 : 1;
+
+        say("head", "hears %s", kind(frame));
+        if (head_told(crustnewt_head_hear(link, frame, sizeof frame, HEAD_ALL)) == CRUSTNEWT_HEAD_NOTICE_REQUEST)
+            admit();
+    }
+}
+
+/* Sends the frame that waits, if the box may and isn't still sending another. */
+static void send(void)
+{
+    static unsigned busy_until;
+    static const uint8_t no_data[1];
+    uint8_t frame[CRUSTNEWT_FRAME_OCTETS];
+
+    if (waiting.length == 0 || quantum < busy_until ||
+        crustnewt_box_next_to_send(box, CRUSTNEWT_BOX_WORDS, waiting.frames[0], CRUSTNEWT_FRAME_OCTETS, no_data, 0) != 1)
+        return;
+    take(&waiting, frame);
+    say("box", "sends %s", kind(frame));
+    put(&up, frame, quantum + DELAY);
+    busy_until = quantum + FRAME_QUANTA;
+}
+
+int main(void)
+{
+    int registered;
+
+    done(crustnewt_head_fresh(head_address, HEAD, head_reply, CRUSTNEWT_HEAD_REPLY_WORDS));
+    done(crustnewt_box_fresh(box_address, BOX_ALL));
+    box_told(crustnewt_box_register(BOX_ALL));
+    head_told(crustnewt_head_open(100, 174, 0, 400, HEAD_ALL));
+    for (quantum = 1; quantum <= QUANTA; quantum++) {
+        head_told(crustnewt_head_tick(HEAD_ALL));
+        box_told(crustnewt_box_tick(BOX_ALL));
+        deliver();
+        send();
+    }
+    registered = box[CRUSTNEWT_BOX_STATE] == CRUSTNEWT_BOX_STATE_REGISTERED &&
+                 links[CRUSTNEWT_LINK_STATE] == CRUSTNEWT_LINK_STATE_REGISTERED && links[CRUSTNEWT_LINK_ADDRESS] == box_address;
+    printf("%s, port %" PRIu64 "\n", registered ? "registered at both ends" : "not registered", box[CRUSTNEWT_BOX_PORT]);
+    return registered ? 0 : 1;
+}
