@@ -1,14 +1,20 @@
 //! Nights end as document 01 lets them.
 
+use crustnewt::cores::CORES;
 use crustnewt::night::{run, Options, Progress, Scenario};
-use crustnewt_core::PlainCore;
 use plain::numbers::TICKS_PER_SECOND;
 
+/// How a night goes: the same on every core.
 fn night(options: &Options) -> (bool, String) {
-    let mut output = Vec::new();
-    let mut progress = Progress::new(false, options.ticks);
-    let kept = run(&PlainCore, options, &mut output, &mut progress).unwrap();
-    (kept, String::from_utf8(output).unwrap())
+    let nights = CORES.iter().map(|(_, make)| {
+        let mut output = Vec::new();
+        let mut progress = Progress::new(false, options.ticks);
+        let kept = run(&*make(), options, &mut output, &mut progress).unwrap();
+        (kept, String::from_utf8(output).unwrap())
+    });
+    let nights: Vec<(bool, String)> = nights.collect();
+    assert!(nights.iter().all(|night| *night == nights[0]));
+    nights[0].clone()
 }
 
 fn options(scenario: Scenario) -> Options {

@@ -1,12 +1,18 @@
 //! Scripts and their answers, worked by hand from the replay language's page.
 
+use crustnewt::cores::CORES;
 use crustnewt::replay::replay;
-use crustnewt_core::PlainCore;
 
+/// What a script answers: the same on every core.
 fn answers(script: &[u8]) -> String {
-    let mut output = Vec::new();
-    replay(&PlainCore, script, &mut output).unwrap();
-    String::from_utf8(output).unwrap()
+    let told = CORES.iter().map(|(_, make)| {
+        let mut output = Vec::new();
+        replay(&*make(), script, &mut output).unwrap();
+        String::from_utf8(output).unwrap()
+    });
+    let told: Vec<String> = told.collect();
+    assert!(told.iter().all(|answers| *answers == told[0]));
+    told[0].clone()
 }
 
 /// A frame of 60 octets from its first digits.

@@ -50,7 +50,11 @@ fn bad_usage_is_status_two() {
 
 #[test]
 fn an_empty_script_answers_nothing() {
-    for words in [&["replay"][..], &["replay", "--plain"]] {
+    for words in [
+        &["replay"][..],
+        &["replay", "--proved"],
+        &["replay", "--plain"],
+    ] {
         let output = crustnewt(words);
         assert_eq!(output.status.code(), Some(0));
         assert!(output.stdout.is_empty() && output.stderr.is_empty());
