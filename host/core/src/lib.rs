@@ -110,6 +110,14 @@ pub struct BoxReply {
 }
 
 impl HeadReply {
+    /// A refusal: its number and nothing else.
+    pub fn refused(number: u8) -> HeadReply {
+        HeadReply {
+            number,
+            ..HeadReply::default()
+        }
+    }
+
     /// Whether there is nothing to tell of it.
     pub fn is_quiet(&self) -> bool {
         self.number == 0 && self.frames == 0 && self.notice.is_none()
@@ -117,6 +125,14 @@ impl HeadReply {
 }
 
 impl BoxReply {
+    /// A refusal: its number and nothing else.
+    pub fn refused(number: u8) -> BoxReply {
+        BoxReply {
+            number,
+            ..BoxReply::default()
+        }
+    }
+
     /// Whether there is nothing to tell of it.
     pub fn is_quiet(&self) -> bool {
         self.number == 0 && self.frames.is_empty() && self.notices.is_empty()

@@ -173,10 +173,7 @@ impl From<Result<HeadAnswer, Refusal>> for HeadReply {
                 frames,
                 notice,
             },
-            Err(refusal) => HeadReply {
-                number: refusal.number(),
-                ..HeadReply::default()
-            },
+            Err(refusal) => HeadReply::refused(refusal.number()),
         }
     }
 }
@@ -193,10 +190,7 @@ impl From<Result<BoxAnswer, Refusal>> for BoxReply {
                 frames: answer.frames,
                 notices: answer.notices,
             },
-            Err(refusal) => BoxReply {
-                number: refusal.number(),
-                ..BoxReply::default()
-            },
+            Err(refusal) => BoxReply::refused(refusal.number()),
         }
     }
 }

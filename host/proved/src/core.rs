@@ -192,10 +192,7 @@ fn head_reply(answer: Result<HeadReply<'_>, Refusal>) -> core::HeadReply {
             frames: reply.frames.len(),
             notice: reply.notice.map(Turn::turn),
         },
-        Err(refusal) => core::HeadReply {
-            number: refusal.number(),
-            ..core::HeadReply::default()
-        },
+        Err(refusal) => core::HeadReply::refused(refusal.number()),
     }
 }
 
@@ -207,10 +204,7 @@ fn box_reply(answer: Result<BoxReply, Refusal>) -> core::BoxReply {
             frames: few(reply.frames().iter().copied()),
             notices: few(reply.notices().map(Turn::turn)),
         },
-        Err(refusal) => core::BoxReply {
-            number: refusal.number(),
-            ..core::BoxReply::default()
-        },
+        Err(refusal) => core::BoxReply::refused(refusal.number()),
     }
 }
 

@@ -4,7 +4,7 @@ mod parts;
 mod reply;
 
 use crate::refusal::Refusal;
-use crate::sys::{self, BoxMemory, BOX_FRAMES_OCTETS, BOX_REPLY_WORDS, BOX_WORDS};
+use crate::sys::{self, BoxMemory, BOX_WORDS};
 use crate::word::{fit, no_such};
 
 pub use parts::{BoxParts, BoxState, Light};
@@ -122,13 +122,13 @@ impl FloorBox {
     }
 
     fn call(&mut self, call: impl FnOnce(BoxMemory<'_>) -> u8) -> Result<BoxReply, Refusal> {
-        let mut frames = [0; BOX_FRAMES_OCTETS];
-        let mut reply = [0; BOX_REPLY_WORDS];
+        let mut reply = BoxReply::BLANK;
+        let (frames, words) = reply.lend();
         Refusal::judge(call(BoxMemory {
             block: &mut self.words,
-            frames: &mut frames,
-            reply: &mut reply,
+            frames,
+            reply: words,
         }))?;
-        Ok(BoxReply::new(frames, reply))
+        Ok(reply)
     }
 }

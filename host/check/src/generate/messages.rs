@@ -45,10 +45,10 @@ pub(crate) fn frame_of(
         message.from = address(dice);
     }
     let frame = octets(&message);
-    if dice.chance(60) {
-        damaged(dice, frame)
-    } else {
-        frame
+    match dice.below(100) {
+        0..=5 => damaged(dice, frame),
+        6..=9 => with_pad(dice, frame),
+        _ => frame,
     }
 }
 

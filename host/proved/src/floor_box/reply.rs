@@ -39,8 +39,15 @@ const NOTICES: usize = 2;
 const NOTICE: usize = 4;
 
 impl BoxReply {
-    pub(crate) fn new(frames: [u8; BOX_FRAMES_OCTETS], words: [u64; BOX_REPLY_WORDS]) -> BoxReply {
-        BoxReply { frames, words }
+    /// Tells nothing.
+    pub(crate) const BLANK: BoxReply = BoxReply {
+        frames: [0; BOX_FRAMES_OCTETS],
+        words: [0; BOX_REPLY_WORDS],
+    };
+
+    /// The memory for a call to fill.
+    pub(crate) fn lend(&mut self) -> (&mut [u8], &mut [u64]) {
+        (&mut self.frames, &mut self.words)
     }
 
     /// How far a heard message's timestamp is from the box's count, else 0.
