@@ -1,7 +1,8 @@
 //! Ticks of a box.
 
 use crate::measure::Row;
-use plain::{Address, BoxState};
+use plain::Address;
+use proved::{BoxParts, BoxState, Light};
 use std::hint::black_box;
 
 /// The box of the measurements, and the first of many.
@@ -52,45 +53,46 @@ pub fn registered(address: u64) -> Pair {
 
 /// A box in this state; `window` ticks are left of a grant's window, if any.
 fn pair(address: u64, state: BoxState, window: u32) -> Pair {
-    let registered = state == BoxState::Registered;
-    let plain = plain::FloorBox {
-        address: Address(address),
-        state,
-        wait: if state == BoxState::Requesting {
-            3_125_000
-        } else {
-            0
-        },
-        watchdog: if registered { 62_500_000 } else { 0 },
-        report: if registered { 3_125_000 } else { 0 },
-        light: match window {
-            0 => plain::Light::Rest,
-            left => plain::Light::Open { left },
-        },
-        ..plain::FloorBox::default()
-    };
-    let parts = proved::BoxParts {
+    let registered = u32::from(state == BoxState::Registered);
+    let parts = BoxParts {
         address,
         count: 0,
-        state: match state {
-            BoxState::Wait => proved::BoxState::Wait,
-            BoxState::Registering => proved::BoxState::Registering,
-            BoxState::Requesting => proved::BoxState::Requesting,
-            BoxState::Registered => proved::BoxState::Registered,
-        },
-        wait: plain.wait,
-        watchdog: plain.watchdog,
-        report: plain.report,
+        state,
+        wait: u32::from(state == BoxState::Requesting) * 3_125_000,
+        watchdog: registered * 62_500_000,
+        report: registered * 3_125_000,
         port: 0,
         sync: 0,
         light: match window {
-            0 => proved::Light::Rest,
-            left => proved::Light::Open { left },
+            0 => Light::Rest,
+            left => Light::Open { left },
         },
         grants: Vec::new(),
     };
-    let proved = proved::FloorBox::restored(&parts).expect("it is sound");
-    Pair { proved, plain }
+    Pair {
+        proved: proved::FloorBox::restored(&parts).expect("it is sound"),
+        plain: plain_box(&parts),
+    }
+}
+
+fn plain_box(parts: &BoxParts) -> plain::FloorBox {
+    plain::FloorBox {
+        address: Address(parts.address),
+        state: match parts.state {
+            BoxState::Wait => plain::BoxState::Wait,
+            BoxState::Registering => plain::BoxState::Registering,
+            BoxState::Requesting => plain::BoxState::Requesting,
+            BoxState::Registered => plain::BoxState::Registered,
+        },
+        wait: parts.wait,
+        watchdog: parts.watchdog,
+        report: parts.report,
+        light: match parts.light {
+            Light::Open { left } => plain::Light::Open { left },
+            _ => plain::Light::Rest,
+        },
+        ..plain::FloorBox::default()
+    }
 }
 
 /// A box that is set back now and then.

@@ -4,6 +4,7 @@ use crate::boxes::BOX;
 use crate::heads::HEAD;
 use crate::measure::Row;
 use plain::frame::{read, write};
+use proved::{AckFlag, Body, Grant, Granted, Message, RegisterFlag, RequestFlag};
 use std::hint::black_box;
 
 /// A row of reading and one of writing for each kind.
@@ -17,7 +18,7 @@ pub fn rows() -> Vec<Row> {
                 Row::short(
                     format!("read {name}"),
                     || {
-                        black_box(&proved::Message::read(black_box(&frame)));
+                        black_box(&Message::read(black_box(&frame)));
                     },
                     || {
                         black_box(&read(black_box(&frame)));
@@ -37,50 +38,42 @@ pub fn rows() -> Vec<Row> {
         .collect()
 }
 
-fn messages() -> [(&'static str, proved::Message); 6] {
-    use proved::{AckFlag, Body, Grant, Granted, RegisterFlag, RequestFlag};
-    let granted = Granted {
-        grant: Grant {
-            start: 1000,
-            length: 500,
-        },
-        force: true,
+fn messages() -> [(&'static str, Message); 6] {
+    let grant = Grant {
+        start: 1000,
+        length: 500,
     };
-    let (port, sync, pending) = (1, 10, 16);
-    let register = RegisterFlag::Ack;
-    let request = RequestFlag::Register;
-    let ack = AckFlag::Ack;
+    let (force, sync) = (true, 10);
+    let granted = Granted { grant, force };
     [
         ("GATE of four grants", Body::Gate(vec![granted; 4])),
         ("discovery GATE", Body::Discovery { granted, sync }),
         ("REPORT", Body::Report),
-        (
-            "REGISTER_REQ",
-            Body::RegisterReq {
-                flag: request,
-                pending,
-            },
-        ),
-        (
-            "REGISTER",
-            Body::Register {
-                flag: register,
-                port,
-                sync,
-                pending,
-            },
-        ),
-        (
-            "REGISTER_ACK",
-            Body::RegisterAck {
-                flag: ack,
-                port,
-                sync,
-            },
-        ),
+        ("REGISTER_REQ", request()),
+        ("REGISTER", register()),
+        ("REGISTER_ACK", acknowledgement()),
     ]
     .map(|(name, body)| {
-        let message = proved::Message::new(BOX, HEAD, 9, &body);
+        let message = Message::new(BOX, HEAD, 9, &body);
         (name, message.expect("it has four grants at most"))
     })
+}
+
+fn request() -> Body {
+    let (flag, pending) = (RequestFlag::Register, 16);
+    Body::RegisterReq { flag, pending }
+}
+
+fn register() -> Body {
+    Body::Register {
+        flag: RegisterFlag::Ack,
+        port: 1,
+        sync: 10,
+        pending: 16,
+    }
+}
+
+fn acknowledgement() -> Body {
+    let (flag, port, sync) = (AckFlag::Ack, 1, 10);
+    Body::RegisterAck { flag, port, sync }
 }
