@@ -288,8 +288,9 @@ fn first_words(message: &[u64]) -> [u64; 17]
 fn writing_of(words: [u64; 17]) -> Writing
     ensures { λ r. ⌜ r ≡ writingOf words ⌝ }
 {
-    if framewords::is_message(words) {
-        return writer::write(framewords::message_of(words));
+    let message = framewords::message_of(words);
+    if framewords::has_words(message, words) {
+        return writer::write(message);
     }
     Writing {
         reply: Reply::Range,

@@ -24,7 +24,7 @@ use Rattle.frame.specs.declared.RegisterFlag.the-variants as answer
 use Rattle.frame.specs.declared.RegisterReqFlag.{RegisterReqFlag}
 use Rattle.frame.specs.declared.RegisterReqFlag.the-variants as request
 use Rattle.framewords.specs.Message.{bodyWords, messageWords}
-use Rattle.framewords.specs.Tells.{octetOf, shortOf, grantOf, grantsOf, registerReqFlagOf, registerFlagOf, registerAckFlagOf, at, gateOf, bodyOf, messageOf, same, isMessage}
+use Rattle.framewords.specs.Tells.{octetOf, shortOf, grantOf, grantsOf, registerReqFlagOf, registerFlagOf, registerAckFlagOf, at, gateOf, bodyOf, messageOf, same, hasWords, isMessage}
 use Rattle.laws.specs.Cases.{either}
 use Rattle.words.specs.Words.{narrowed}
 use Rattle.writer.specs.Write.{writeOf}
@@ -119,7 +119,7 @@ same-is (x ∷ a) (y ∷ b) h =
 
 -- which are a message's
 pub is-message : (m : Message) → Fits m → isMessage (messageWords m) ≡ true
-unfolding isMessage
+unfolding isMessage hasWords
 is-message m h = rw (told m h) (same-refl (messageWords m))
 
 narrow-fits : (n : ℕ) → narrowed n < 2 ^ 32
@@ -159,7 +159,7 @@ body-fits w =
 
 -- and no other words are
 pub only-messages : (w : List ℕ) → isMessage w ≡ true → Fits (messageOf w) × (messageWords (messageOf w) ≡ w)
-unfolding isMessage messageOf
+unfolding isMessage hasWords messageOf
 only-messages w h = (record { timestamp = narrow-fits (at w 2); body = body-fits w }, same-is (messageWords (messageOf w)) w h)
 
 body-size : (x y z : ℕ) (b : Body) → length (x ∷ y ∷ z ∷ bodyWords b) ≡ 17

@@ -79,6 +79,10 @@ same [] (y ∷ b) = false
 same (x ∷ a) [] = false
 same (x ∷ a) (y ∷ b) = eqb x y && same a b
 
+-- the message has just these words
+unfoldable pub hasWords : Message → List ℕ → Bool
+hasWords m w = same (messageWords m) w
+
 -- the words are those of a message
 unfoldable pub isMessage : List ℕ → Bool
-isMessage w = same (messageWords (messageOf w)) w
+isMessage w = hasWords (messageOf w) w

@@ -2,7 +2,7 @@
 ghost use mathlib.Core.Path.{_≡_};
 ghost use mathlib.Core.Bool.{cond};
 ghost use Rattle.framewords.specs.Message.{grantWords, noGrant, fieldWords, gateWords, grantsWords, bodyWords, messageWords};
-ghost use Rattle.framewords.specs.Tells.{octetOf, shortOf, countOf, quantaOf, grantOf, grantsOf, registerReqFlagOf, registerFlagOf, registerAckFlagOf, gateOf, bodyOf, messageOf, same, isMessage};
+ghost use Rattle.framewords.specs.Tells.{octetOf, shortOf, countOf, quantaOf, grantOf, grantsOf, registerReqFlagOf, registerFlagOf, registerAckFlagOf, gateOf, bodyOf, messageOf, same, hasWords};
 use clock::Count;
 use clock::Quanta;
 use frame::Address;
@@ -303,7 +303,7 @@ fn body_of(w: [u64; 17]) -> Body
     }
 }
 
-// Some message, whatever the words; whether they are its own, `is_message` says.
+// Some message, whatever the words; whether they are its own, `has_words` says.
 pub fn message_of(w: [u64; 17]) -> Message
     ensures { λ r. ⌜ r ≡ messageOf w ⌝ }
 {
@@ -328,9 +328,9 @@ fn same(a: [u64; 17], b: [u64; 17]) -> bool
     true
 }
 
-// Whether a message has just these words.
-pub fn is_message(w: [u64; 17]) -> bool
-    ensures { λ r. ⌜ r ≡ isMessage w ⌝ }
+// Whether the message has just these words.
+pub fn has_words(message: Message, w: [u64; 17]) -> bool
+    ensures { λ r. ⌜ r ≡ hasWords message w ⌝ }
 {
-    same(message_words(message_of(w)), w)
+    same(message_words(message), w)
 }
