@@ -1,4 +1,6 @@
 -- What the C face is worth.
-pub mod RoundTrip
 pub mod Calls
+pub mod HeadCalls
+pub mod HeadTrip
+pub mod RoundTrip
 pub mod Write
