@@ -1,4 +1,5 @@
--- What the proofs of several functions use.
+-- What the proofs of several functions use, and what the promises settle.
+pub mod HeadSettled
 mod Laid
 mod Lent
 mod Room

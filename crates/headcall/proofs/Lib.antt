@@ -1,4 +1,4 @@
--- What the proofs of several functions use.
 mod Calls
+pub mod Settled
 mod Values
 mod Words

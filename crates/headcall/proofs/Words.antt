@@ -5,6 +5,7 @@ use mathlib.Core.Path.{_≡_, refl, sym, ap, _∙_}
 use mathlib.Core.Bool.{Bool, true, false, cond}
 use mathlib.Core.List.{List, [], _∷_, _++_}
 use native.Mathlib.Omega.{arith}
+use native.Mathlib.Nat.{le-refl}
 use lib.Dec.{eqb}
 use lib.ListN.{length, take, drop, replicate}
 use lib.Seq.{take-at}
@@ -16,6 +17,7 @@ use Rattle.headwords.specs.Table.{tableWords, linksOf, linksIn, linksAt, loaded
 use Rattle.headwords.specs.Told.{toldWords}
 use Rattle.judging.specs.declared.Request.{Request}
 use Rattle.lent.specs.Folds.{places}
+use Rattle.lent.proofs.Folds.{up-all, up-length}
 use Rattle.links.specs.Link.{idle}
 use Rattle.links.specs.declared.Link.{Link}
 use Rattle.reader.specs.Decode.{readOf}
@@ -29,9 +31,7 @@ use Rattle.headcall.specs.Calls.{left, begunLeft, Told, told, headAt, is
 use Rattle.headcall.specs.Lend.{Kept, kept, keptOf, LendLeft, lendLeft, lendOf, clearOf}
 
 length-places : (f : ℕ → Link → Link) (k : ℕ) (xs : List Link) → length (places f k xs) ≡ length xs
-unfolding places
-length-places f k [] = refl
-length-places f k (x ∷ xs) = ap suc (length-places f (suc k) xs)
+length-places f k xs = sym (ap length (up-all f k xs (length xs) (le-refl (length xs)))) ∙ up-length f k xs (length xs)
 
 -- no call changes how many links there are
 length-served : (h : Head) (xs : List Link) (r : Request) (os : List ℕ) → length (serveOf h xs r os .table) ≡ length xs
