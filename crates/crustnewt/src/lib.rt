@@ -484,7 +484,7 @@ pub extern "C" fn crustnewt_head_tick(
     output: &mut [u8],
     reply: &mut [u64],
 ) -> u8
-    ensures { λ r. ⌜ headLeft r (now (head .exit)) (now (links .exit)) (now (output .exit)) (now (reply .exit)) ≡ servedOf (Requested.Tick) (now (head .entry)) (now (links .entry)) (now (output .entry)) (now (reply .entry)) ⌝ }
+    ensures { λ r. ⌜ headLeft r (now (head .exit)) (now (links .exit)) (now (output .exit)) (now (reply .exit)) ≡ servedOf Requested.Tick (now (head .entry)) (now (links .entry)) (now (output .entry)) (now (reply .entry)) ⌝ }
 {
     headcall::served(Request::Tick, head, links, output, reply)
 }
