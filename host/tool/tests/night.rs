@@ -90,12 +90,12 @@ fn no_half_open_pair_lasts_in_storm_and_dark() {
 
 #[test]
 fn skipped_ticks_change_nothing() {
-    // Long enough for requests, registrations, retries and rounds of gates.
-    for (boxes, loss) in [(1, 0), (2, 400)] {
+    // The second is long enough for retries and for rounds of gates.
+    for (boxes, loss, ticks) in [(2, 0, 300_000), (1, 400, 3_500_000)] {
         let skipping = Options {
             boxes,
             loss,
-            ticks: 3_500_000,
+            ticks,
             ..options(Scenario::Storm)
         };
         let every_tick = Options {

@@ -83,8 +83,8 @@ pub fn judge_write(
     if left.number == DONE {
         let mut read = [0; MESSAGE_WORDS];
         let number = face.read(&left.frames, &mut read);
-        require(number == DONE, "written, not read")?;
-        require_written(face, &read, &left.frames)?;
+        let same = number == DONE && read == message[..MESSAGE_WORDS];
+        require(same, "written, and not read as it was")?;
     }
     Ok(left)
 }
