@@ -2,7 +2,7 @@
 -- Assumes nothing.
 use Prim.Native.Nat.{ℕ, _+_, _*_, _/_, _%_, _^_, min}
 use mathlib.Core.Bool.{cond}
-use mathlib.Core.List.{List, [], _∷_, map}
+use mathlib.Core.List.{List, [], _∷_, _++_, map}
 use lib.Dec.{eqb, ltb}
 use lib.ListN.{drop, getD}
 use Rattle.clock.specs.declared.Quanta.{Quanta}
@@ -17,6 +17,7 @@ use Rattle.registration.specs.declared.Registration.{Registration}
 use Rattle.registration.specs.declared.State.{State}
 use Rattle.registration.specs.declared.State.the-variants.{Wait, Registering, RegisterReq, Registered}
 use Rattle.words.specs.Words.{narrowed}
+use Rattle.boxwords.specs.declared.Front.{Front}
 use Rattle.boxwords.specs.declared.LightWords.{LightWords}
 
 -- a grant's start above its length: every word is one grant's, and every grant has one word
@@ -97,14 +98,13 @@ lightOf w =
 unfoldable pub addressOf : ℕ → ℕ → Address
 addressOf address count = cond (ltb 4294967295 count) (record { 0 = 0 }) (record { 0 = address })
 
--- the words of a box, in their order
-unfoldable pub boxWords : FloorBox → List ℕ
-boxWords b =
-    let p = b .processes in
-    let r = p .registration in
-    let l = lightWords (p .light) in
-    b .address .0
-    ∷ p .count .0
+-- the words before the list's grants, in their order
+unfoldable pub frontWords : Front → List ℕ
+frontWords f =
+    let r = f .registration in
+    let l = lightWords (f .light) in
+    f .address .0
+    ∷ f .count .0
     ∷ stateWord (r .state)
     ∷ r .wait .left
     ∷ r .watchdog .left
@@ -115,20 +115,38 @@ boxWords b =
     ∷ l .left
     ∷ l .grant
     ∷ l .sync
-    ∷ p .list .number
-    ∷ map entryWord (p .list .entries)
+    ∷ f .number
+    ∷ []
 
--- the box that words tell
-unfoldable pub boxOf : List ℕ → FloorBox
-boxOf w =
+unfoldable pub frontOf : List ℕ → Front
+frontOf w =
     let at : ℕ → ℕ = λ i. getD w i 0 in
     record {
       address = addressOf (at 0) (at 1);
-      processes =
-          record {
-            count = record { 0 = narrowed (at 1) };
-            registration = registrationOf (at 2) (at 3) (at 4) (at 5) (at 6) (at 7);
-            list = listOf (at 12) (drop 13 w);
-            light = lightOf (record { phase = at 8; left = at 9; grant = at 10; sync = at 11 });
-          };
+      count = record { 0 = narrowed (at 1) };
+      registration = registrationOf (at 2) (at 3) (at 4) (at 5) (at 6) (at 7);
+      light = lightOf (record { phase = at 8; left = at 9; grant = at 10; sync = at 11 });
+      number = at 12;
     }
+
+-- a box is what stands before its list's grants, and these
+abbrev pub frontIn : FloorBox → Front
+frontIn b =
+    let p = b .processes in
+    record { address = b .address; count = p .count; registration = p .registration; light = p .light; number = p .list .number }
+
+abbrev pub boxed : Front → List Entry → FloorBox
+boxed f entries =
+    record {
+      address = f .address;
+      processes =
+          record { count = f .count; registration = f .registration; list = record { entries = entries; number = f .number }; light = f .light };
+    }
+
+-- the words of a box
+unfoldable pub boxWords : FloorBox → List ℕ
+boxWords b = frontWords (frontIn b) ++ map entryWord (b .processes .list .entries)
+
+-- the box that words tell
+unfoldable pub boxOf : List ℕ → FloorBox
+boxOf w = boxed (frontOf w) (map entryOf (drop 13 w))

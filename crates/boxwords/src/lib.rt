@@ -2,7 +2,7 @@
 ghost use mathlib.Core.Path.{_≡_};
 ghost use mathlib.Core.Bool.{cond};
 ghost use mathlib.Core.List.{map};
-ghost use Rattle.boxwords.specs.Box.{entryWord, entryOf, stateWord, stateOf, strange, timerOf, quantaOf, waitOf, portOf, registrationOf, phaseWords, lightWords, lightOf, listOf, addressOf, boxWords, boxOf};
+ghost use Rattle.boxwords.specs.Box.{entryWord, entryOf, stateWord, stateOf, strange, timerOf, quantaOf, waitOf, portOf, registrationOf, phaseWords, lightWords, lightOf, listOf, addressOf, frontWords, frontOf, boxWords, boxOf};
 ghost use Rattle.boxwords.specs.Told.{kindWords, noticeWords, toldWords};
 use clock::Count;
 use clock::Quanta;
@@ -39,6 +39,15 @@ pub struct NoticeWords {
     pub force: u64,
 }
 
+// What stands before the list's grants: all that a tick moves when nothing happens at it.
+pub struct Front {
+    pub address: Address,
+    pub count: Count,
+    pub registration: Registration,
+    pub light: Light,
+    pub number: usize,
+}
+
 // A grant's start above its length.
 fn entry_word(e: Entry) -> u64
     ensures { λ r. ⌜ r ≡ entryWord e ⌝ }
@@ -71,7 +80,7 @@ fn entry_words(list: GrantList) -> [u64; 16]
     out
 }
 
-fn list_of(number: u64, entries: [u64; 16]) -> GrantList
+fn list_of(number: usize, entries: [u64; 16]) -> GrantList
     ensures { λ r. ⌜ r ≡ listOf number entries ⌝ }
 {
     let mut out = [entry_of(0); 16];
@@ -83,7 +92,7 @@ fn list_of(number: u64, entries: [u64; 16]) -> GrantList
     }
     GrantList {
         entries: out,
-        number: number as usize,
+        number,
     }
 }
 
@@ -271,6 +280,54 @@ fn address_of(address: u64, count: u64) -> Address
     Address(address)
 }
 
+pub fn front_words(f: Front) -> [u64; 13]
+    ensures { λ r. ⌜ r ≡ frontWords f ⌝ }
+{
+    let address = f.address;
+    let count = f.count;
+    let registration = f.registration;
+    let held = f.light;
+    let light = light_words(held);
+    let state = registration.state;
+    let wait = registration.wait;
+    let watchdog = registration.watchdog;
+    let report = registration.report;
+    let sync = registration.sync;
+    [
+        address.0,
+        count.0 as u64,
+        state_word(state),
+        wait.left as u64,
+        watchdog.left as u64,
+        report.left as u64,
+        registration.port as u64,
+        sync.0 as u64,
+        light.phase,
+        light.left,
+        light.grant,
+        light.sync,
+        f.number as u64,
+    ]
+}
+
+pub fn front_of(w: [u64; 29]) -> Front
+    ensures { λ r. ⌜ r ≡ frontOf w ⌝ }
+{
+    let held = LightWords {
+        phase: w[8],
+        left: w[9],
+        grant: w[10],
+        sync: w[11],
+    };
+    Front {
+        address: address_of(w[0], w[1]),
+        count: Count(words::narrow(w[1])),
+        registration: registration_of(w[2], w[3], w[4], w[5], w[6], w[7]),
+        light: light_of(held),
+        number: w[12] as usize,
+    }
+}
+
 // The whole box.
 pub fn pack(b: FloorBox) -> [u64; 29]
     ensures { λ r. ⌜ r ≡ boxWords b ⌝ }
@@ -280,28 +337,17 @@ pub fn pack(b: FloorBox) -> [u64; 29]
     let count = processes.count;
     let registration = processes.registration;
     let list = processes.list;
-    let held = processes.light;
-    let light = light_words(held);
-    let state = registration.state;
-    let wait = registration.wait;
-    let watchdog = registration.watchdog;
-    let report = registration.report;
-    let sync = registration.sync;
+    let light = processes.light;
+    let front = front_words(Front {
+        address,
+        count,
+        registration,
+        light,
+        number: list.number,
+    });
     let entries = entry_words(list);
     let mut w = [0u64; 29];
-    w[0] = address.0;
-    w[1] = count.0 as u64;
-    w[2] = state_word(state);
-    w[3] = wait.left as u64;
-    w[4] = watchdog.left as u64;
-    w[5] = report.left as u64;
-    w[6] = registration.port as u64;
-    w[7] = sync.0 as u64;
-    w[8] = light.phase;
-    w[9] = light.left;
-    w[10] = light.grant;
-    w[11] = light.sync;
-    w[12] = list.number as u64;
+    words::lay(&front, &mut w);
     words::lay(&entries, &mut w[13..]);
     w
 }
@@ -312,22 +358,18 @@ pub fn unpack(w: [u64; 29]) -> FloorBox
 {
     let mut entries = [0u64; 16];
     words::lay(&w[13..], &mut entries);
-    let held = LightWords {
-        phase: w[8],
-        left: w[9],
-        grant: w[10],
-        sync: w[11],
-    };
+    let front = front_of(w);
+    let address = front.address;
+    let count = front.count;
+    let registration = front.registration;
+    let light = front.light;
     let processes = Processes {
-        count: Count(words::narrow(w[1])),
-        registration: registration_of(w[2], w[3], w[4], w[5], w[6], w[7]),
-        list: list_of(w[12], entries),
-        light: light_of(held),
+        count,
+        registration,
+        list: list_of(front.number, entries),
+        light,
     };
-    FloorBox {
-        address: address_of(w[0], w[1]),
-        processes,
-    }
+    FloorBox { address, processes }
 }
 
 fn kind(kind: u64) -> NoticeWords

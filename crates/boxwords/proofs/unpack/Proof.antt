@@ -7,10 +7,10 @@ use lib.Seq.{take-all}
 use mathlib.Core.List.{List}
 use mathlib.Core.Path.{_≡_, _∙_}
 use native.Mathlib.Omega.{arith}
-use Rattle.boxwords.proofs.unpack.Statement.{statement}
 use Rattle.boxwords.specs.Box.{boxOf}
 use Rattle.words.specs.Laws.{laid-whole}
 use Rattle.words.specs.Words.{laid}
+use Rattle.boxwords.proofs.unpack.Statement.{statement}
 use Rattle.boxwords.proofs.unpack.Tie as tie
 
 -- the words behind the thirteenth fill sixteen places
@@ -35,62 +35,11 @@ slice-aggregate-lay c = search needs
 lay-requires : tie.Need-lay-requires
 lay-requires c κs = search needs
 
-array-read-narrow : tie.Need-array-read-narrow
-array-read-narrow c = search needs
-
-array-read-registration-of : tie.Need-array-read-registration-of
-array-read-registration-of c = search needs
-
-array-read-registration-of-2 : tie.Need-array-read-registration-of-2
-array-read-registration-of-2 c = search needs
-
-array-read-registration-of-3 : tie.Need-array-read-registration-of-3
-array-read-registration-of-3 c = search needs
-
-array-read-narrow-2 : tie.Need-array-read-narrow-2
-array-read-narrow-2 c = search needs
-
-narrow-requires : tie.Need-narrow-requires
-narrow-requires c κs = search needs
-
-array-read-registration-of-4 : tie.Need-array-read-registration-of-4
-array-read-registration-of-4 c = search needs
-
-array-read-registration-of-5 : tie.Need-array-read-registration-of-5
-array-read-registration-of-5 c = search needs
-
-array-read-registration-of-6 : tie.Need-array-read-registration-of-6
-array-read-registration-of-6 c = search needs
-
-array-read-registration-of-7 : tie.Need-array-read-registration-of-7
-array-read-registration-of-7 c = search needs
-
-array-read-registration-of-8 : tie.Need-array-read-registration-of-8
-array-read-registration-of-8 c = search needs
-
-array-read-registration-of-9 : tie.Need-array-read-registration-of-9
-array-read-registration-of-9 c = search needs
-
-registration-of-requires : tie.Need-registration-of-requires
-registration-of-requires c κs = search needs
-
-array-read-list-of : tie.Need-array-read-list-of
-array-read-list-of c = search needs
+front-of-requires : tie.Need-front-of-requires
+front-of-requires c κs = search needs
 
 list-of-requires : tie.Need-list-of-requires
 list-of-requires c κs = search needs
-
-light-of-requires : tie.Need-light-of-requires
-light-of-requires c κs = search needs
-
-array-read-address-of : tie.Need-array-read-address-of
-array-read-address-of c = search needs
-
-array-read-address-of-2 : tie.Need-array-read-address-of-2
-array-read-address-of-2 c = search needs
-
-address-of-requires : tie.Need-address-of-requires
-address-of-requires c κs = search needs
 
 returns : tie.Need-returns
 unfolding boxOf
@@ -98,11 +47,8 @@ returns c =
     let w = c .before .before .before .before .before .before .before .before .before .before .args .t1 in
     let full : length w ≡ 29 = omega arith in
     rw (
-      c .address-of .ensures,
-      c .before .light-of .ensures,
-      c .before .before .list-of .ensures,
-      c .before .before .before .registration-of .ensures,
-      c .before .before .before .before .narrow .ensures,
+      c .list-of .ensures,
+      c .before .before .before .before .front-of .ensures,
       c .before .before .before .before .before .before .lay .ensures,
       behind w full,
     )
@@ -116,23 +62,6 @@ unpack-spec =
     part-lay-end
     slice-aggregate-lay
     lay-requires
-    array-read-narrow
-    array-read-registration-of
-    array-read-registration-of-2
-    array-read-registration-of-3
-    array-read-narrow-2
-    narrow-requires
-    array-read-registration-of-4
-    array-read-registration-of-5
-    array-read-registration-of-6
-    array-read-registration-of-7
-    array-read-registration-of-8
-    array-read-registration-of-9
-    registration-of-requires
-    array-read-list-of
+    front-of-requires
     list-of-requires
-    light-of-requires
-    array-read-address-of
-    array-read-address-of-2
-    address-of-requires
     returns)
