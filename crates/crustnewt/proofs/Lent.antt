@@ -1,4 +1,4 @@
--- Where enough is lent, two frames have room.
+-- Where enough is lent, the box and two frames have room.
 -- Assumes nothing.
 use Prim.Native.Nat.{ℕ, _≤_}
 use mathlib.Core.Path.{_≡_, sym, _∙_}
@@ -7,9 +7,14 @@ use borrow.Author.Tests.{leb-true}
 use lib.Dec.{leb}
 use Rattle.crustnewt.specs.Calls.{isLent}
 
-pub room : (b f r : ℕ) (t : Bool) → t ≡ isLent b f r → t ≡ true → 120 ≤ f
+parts : (b f r : ℕ) (t : Bool) → t ≡ isLent b f r → t ≡ true → (leb 29 b ≡ true) × (leb 120 f ≡ true)
 unfolding isLent
-room b f r t e h =
+parts b f r t e h =
     let all : (leb 29 b && leb 120 f && leb 18 r) ≡ true = sym e ∙ h in
-    let two = and-eq-true-iff (leb 29 b && leb 120 f) (leb 18 r) .0 all .0 in
-    leb-true 120 f (and-eq-true-iff (leb 29 b) (leb 120 f) .0 two .1)
+    and-eq-true-iff (leb 29 b) (leb 120 f) .0 (and-eq-true-iff (leb 29 b && leb 120 f) (leb 18 r) .0 all .0)
+
+pub place : (b f r : ℕ) (t : Bool) → t ≡ isLent b f r → t ≡ true → 29 ≤ b
+place b f r t e h = leb-true 29 b (parts b f r t e h .0)
+
+pub room : (b f r : ℕ) (t : Bool) → t ≡ isLent b f r → t ≡ true → 120 ≤ f
+room b f r t e h = leb-true 120 f (parts b f r t e h .1)

@@ -2,5 +2,6 @@
 pub mod HeadSettled
 mod Laid
 mod Lent
+mod Passing
 mod Room
 pub mod Settled

@@ -5,9 +5,11 @@ use mathlib.Core.Bool.{Bool, cond, _&&_}
 use mathlib.Core.List.{List, _++_}
 use denote.Ref.{RefT}
 use lib.Dec.{eqb, leb, ltb}
+use lib.IntN.{pos}
 use lib.ListN.{length, drop, replicate}
-use Rattle.boxwords.specs.Box.{boxWords, boxOf}
+use Rattle.boxwords.specs.Box.{frontWords, boxWords, boxOf}
 use Rattle.boxwords.specs.Told.{toldWords}
+use Rattle.boxwords.specs.declared.Front.{Front}
 use Rattle.floorbox.specs.Answer.{refused}
 use Rattle.floorbox.specs.Box.{freshOf}
 use Rattle.floorbox.specs.Hear.{hearOf}
@@ -16,6 +18,9 @@ use Rattle.floorbox.specs.declared.Answer.{Answer}
 use Rattle.floorbox.specs.declared.FloorBox.{FloorBox}
 use Rattle.frame.specs.Card.{numberOf}
 use Rattle.reader.specs.Decode.{readOf}
+use Rattle.light.specs.Light.{atRest}
+use Rattle.registration.specs.Registration.{isRegistered}
+use Rattle.telling.specs.Told.{noNotices}
 use Rattle.telling.specs.declared.Frames.{Frames}
 use Rattle.words.specs.Words.{laid}
 
@@ -38,9 +43,12 @@ pub record Told : Type 0 where
 abbrev pub told : ℕ → List ℕ → List ℕ → Told
 told n frames reply = record { number = n; frames = frames; reply = reply }
 
--- the box that stands in a block
+-- the words of the box that stands in a block, and the box
+unfoldable pub wordsAt : List ℕ → List ℕ
+wordsAt block = laid block (replicate 29 0)
+
 unfoldable pub boxAt : List ℕ → FloorBox
-boxAt block = boxOf (laid block (replicate 29 0))
+boxAt block = boxOf (wordsAt block)
 
 -- 29 words for the box, 120 octets for two frames, 18 words for what is told
 unfoldable pub isLent : ℕ → ℕ → ℕ → Bool
@@ -79,6 +87,24 @@ handed a block frames reply = with (laid (boxWords (a .next)) block) (toldOf a f
 unfoldable pub settled : Answer → List ℕ → List ℕ → List ℕ → Left
 settled a block frames reply =
     cond (eqb (numberOf (a .reply)) 0) (handed a block frames reply) (with block (toldOf a frames reply))
+
+-- a quiet tick moves the words before the grants; the places of a list that activation has found empty are cleared
+unfoldable pub movedOn : Front → List ℕ → List ℕ
+movedOn next block =
+    cond (atRest (next .light) && isRegistered (next .registration .state))
+    (laid (laid (frontWords next) (replicate 29 0)) block)
+    (laid (frontWords next) block)
+
+-- what it leaves in the block and in what is told
+pub record Passed : Type 0 where
+  pub block : List ℕ
+  pub reply : List ℕ
+
+abbrev pub passed : List ℕ → List ℕ → Passed
+passed block reply = record { block = block; reply = reply }
+
+unfoldable pub passedOn : Front → List ℕ → List ℕ → Passed
+passedOn next block reply = passed (movedOn next block) (laid (toldWords (pos 0) 0 noNotices) reply)
 
 -- a fresh box stands in the block even where it is refused: it then holds address zero
 unfoldable pub freshCall : ℕ → List ℕ → List ℕ → List ℕ → Left

@@ -2,7 +2,7 @@
 ghost use mathlib.Core.Path.{_≡_};
 ghost use Prim.Native.Nat.{_≤_};
 ghost use lib.ListN.{length, take};
-ghost use Rattle.crustnewt.specs.Calls.{told, left, boxAt, isLent, heardOf, laidOne, laidBoth, laidFrames, toldOf, handed, settled, freshCall, boxCall, nextCall};
+ghost use Rattle.crustnewt.specs.Calls.{told, left, wordsAt, boxAt, isLent, movedOn, passed, passedOn, heardOf, laidOne, laidBoth, laidFrames, toldOf, handed, settled, freshCall, boxCall, nextCall};
 ghost use Rattle.crustnewt.specs.Read.{readLeft, readCall};
 ghost use Rattle.crustnewt.specs.Write.{writeLeft, hasRoom, writingOf, writeCall};
 ghost use Rattle.boxwords.specs.Box.{boxWords};
@@ -12,6 +12,7 @@ ghost use Rattle.floorbox.specs.Box.{registerOf, deregisterOf, tickOf};
 ghost use Rattle.headcall.specs.Calls.{left as headLeft, begunLeft, servedOf, heardOf as headHeard, begunOf};
 ghost use Rattle.headcall.specs.Gate.{askedOf};
 ghost use Rattle.judging.specs.declared.Request.{Request as Requested};
+use boxwords::Front;
 use clock::Count;
 use clock::Quanta;
 use floorbox::Answer;
@@ -38,13 +39,19 @@ const MESSAGE: usize = 17;
 
 const FRAME: usize = 60;
 
-// The box in a block; words that a short block lacks are 0.
-fn load(block: &[u64]) -> FloorBox
-    ensures { λ r. ⌜ r ≡ boxAt (now (block .entry)) ⌝ }
+// The words of the box in a block; those that a short block lacks are 0.
+fn words_in(block: &[u64]) -> [u64; 29]
+    ensures { λ r. ⌜ r ≡ wordsAt (now (block .entry)) ⌝ }
 {
     let mut w = [0u64; 29];
     words::lay(block, &mut w);
-    boxwords::unpack(w)
+    w
+}
+
+fn load(block: &[u64]) -> FloorBox
+    ensures { λ r. ⌜ r ≡ boxAt (now (block .entry)) ⌝ }
+{
+    boxwords::unpack(words_in(block))
 }
 
 fn is_lent(block: usize, frames: usize, reply: usize) -> bool
@@ -126,6 +133,31 @@ fn settle(answer: Answer, block: &mut [u64], frames: &mut [u8], reply: &mut [u64
         return hand_out(answer, block, frames, reply);
     }
     tell(answer, frames, reply)
+}
+
+// A quiet tick moves the words before the grants; the places of a list that activation has found empty are cleared.
+fn move_on(next: Front, block: &mut [u64])
+    ensures { λ _. ⌜ now (block .exit) ≡ movedOn next (now (block .entry)) ⌝ }
+{
+    let registration = next.registration;
+    let light = next.light;
+    let front = boxwords::front_words(next);
+    if light.at_rest() & registration.is_registered() {
+        let mut w = [0u64; 29];
+        words::lay(&front, &mut w);
+        words::lay(&w, block);
+        return;
+    }
+    words::lay(&front, block);
+}
+
+// It tells and sends nothing.
+fn pass(next: Front, block: &mut [u64], reply: &mut [u64])
+    ensures { λ _. ⌜ passed (now (block .exit)) (now (reply .exit)) ≡ passedOn next (now (block .entry)) (now (reply .entry)) ⌝ }
+{
+    let told = boxwords::told(0, 0, Notices::none());
+    move_on(next, block);
+    words::lay(&told, reply);
 }
 
 // A frame that the reader refuses changes nothing.
@@ -219,11 +251,18 @@ pub extern "C" fn crustnewt_box_hear(
     SHORT
 }
 
+// Nearly every tick is a quiet one, and never unpacks the grants.
 #[no_mangle]
 pub extern "C" fn crustnewt_box_tick(block: &mut [u64], frames: &mut [u8], reply: &mut [u64]) -> u8
     ensures { λ r. ⌜ left r (now (block .exit)) (now (frames .exit)) (now (reply .exit)) ≡ boxCall tickOf (now (block .entry)) (now (frames .entry)) (now (reply .entry)) ⌝ }
 {
     if is_lent(block.len(), frames.len(), reply.len()) {
+        let passed = quiet::tick(boxwords::front_of(words_in(block)));
+        let next = passed.next;
+        if passed.quiet {
+            pass(next, block, reply);
+            return 0;
+        }
         let b = load(block);
         return settle(b.tick(), block, frames, reply);
     }

@@ -136,17 +136,17 @@ module _ (f : Front) (entries : List Entry) (p : Parts f) where
 
 -- activation finds the list empty, and clears its places
 activated : (n : Front) (entries : List Entry) → n .number ≡ 0 → activate (boxed n entries .processes) ≡ boxed n (entriesLeft n entries) .processes
+unfolding activate chooseOf settle
 activated n entries e = split (atRest (n .light) && isRegistered (n .registration .state)) refl
   where
     split : (t : Bool) → (atRest (n .light) && isRegistered (n .registration .state)) ≡ t → activate (boxed n entries .processes) ≡ boxed n (entriesLeft n entries) .processes
-    unfolding activate chooseOf settle
     split true h = rw (h, e)
     split false h = rw h
 
 -- the theorem
 pub passes : (f : Front) (entries : List Entry) → tickOf f .quiet ≡ true
     → boxTick (boxed f entries) ≡ bare (boxed (tickOf f .next) (entriesLeft (tickOf f .next) entries)) Done
-unfolding boxTick accepted
+unfolding boxTick accepted tickOf
 passes f entries h =
     let p = parts f h in
     rw (sound f entries p, ticked f entries p, activated (tickOf f .next) entries (still-empty f entries p))

@@ -5,18 +5,15 @@ use borrow.Author.Needs.{needs}
 use Rattle.crustnewt.proofs.load.Statement.{statement}
 use Rattle.crustnewt.proofs.load.Tie as tie
 
-slice-aggregate-lay : tie.Need-slice-aggregate-lay
-slice-aggregate-lay c = search needs
-
-lay-requires : tie.Need-lay-requires
-lay-requires c κs = search needs
+words-in-requires : tie.Need-words-in-requires
+words-in-requires c κs = search needs
 
 unpack-requires : tie.Need-unpack-requires
 unpack-requires c κs = search needs
 
 returns : tie.Need-returns
 unfolding boxAt
-returns c = rw (c .unpack .ensures, c .before .before .lay .ensures)
+returns c = rw (c .unpack .ensures, c .before .words-in .ensures)
 
 pub load-spec : {M : Type 1} → statement M
-load-spec = tie.close (tie.spec slice-aggregate-lay lay-requires unpack-requires returns)
+load-spec = tie.close (tie.spec words-in-requires unpack-requires returns)

@@ -1,0 +1,88 @@
+-- A quiet tick, and what it leaves in the caller's memory, is the tick of the box in the block.
+-- Assumes nothing.
+use Prim.Native.Nat.{ℕ, zero, suc, _+_, _*_, _/_, _%_, _^_, _≤_}
+use mathlib.Core.Path.{_≡_, refl, sym, ap, _∙_}
+use mathlib.Core.Bool.{Bool, true, false, cond, _&&_}
+use mathlib.Core.List.{List, [], _∷_, _++_, map, append-assoc}
+use native.Mathlib.Omega.{arith}
+use lib.IntN.{pos}
+use lib.ListN.{length, take, drop, replicate, length-append, length-take, length-drop, take-append-drop}
+use Rattle.boxwords.specs.Box.{entryWord, entryOf, frontWords, frontOf, boxed, boxWords, boxOf}
+use Rattle.boxwords.specs.Told.{toldWords}
+use Rattle.boxwords.specs.declared.Front.{Front}
+use Rattle.floorbox.specs.Box.{tickOf}
+use Rattle.grants.specs.declared.Entry.{Entry}
+use Rattle.light.specs.Light.{atRest}
+use Rattle.quiet.specs.Quiet.{tickOf as quietTick}
+use Rattle.quiet.specs.declared.Passed.{Passed as Ticked}
+use Rattle.quiet.proofs.Passes.{entriesLeft, passes}
+use Rattle.registration.specs.Registration.{isRegistered}
+use Rattle.telling.specs.Told.{noNotices}
+use Rattle.words.specs.Laws.{laid-over, laid-whole}
+use Rattle.words.specs.Words.{laid}
+use Rattle.crustnewt.specs.Calls.{Passed, left, wordsAt, boxAt, movedOn, passed, passedOn, toldOf, handed, settled}
+
+-- a grant's word is what it was
+word-again : (w : ℕ) → entryWord (entryOf w) ≡ w
+word-again w = omega arith
+
+words-again : (l : List ℕ) → map entryWord (map entryOf l) ≡ l
+words-again [] = refl
+words-again (w ∷ l) = rw (word-again w, words-again l)
+
+-- what is dropped of a beginning, and the rest
+seam : (k m : ℕ) (l : List ℕ) → k ≤ m → drop k (take m l) ++ drop m l ≡ drop k l
+seam zero m l h = take-append-drop m l
+seam (suc k) zero l h = absurd (omega arith)
+seam (suc k) (suc m) [] h = refl
+seam (suc k) (suc m) (x ∷ l) h = seam k m l (omega arith)
+
+thirteen : (n : Front) → length (frontWords n) ≡ 13
+unfolding frontWords
+thirteen n = refl
+
+cleared : (n : Front) → boxWords (boxed n (replicate 16 (entryOf 0))) ≡ laid (frontWords n) (replicate 29 0)
+unfolding boxWords laid frontWords
+cleared n = refl
+
+module _ (block : List ℕ) (h : 29 ≤ length block) where
+  whole : wordsAt block ≡ take 29 block
+  unfolding wordsAt
+  whole = laid-whole block (replicate 29 0) h
+
+  -- the grants stay, word for word
+  stays : (n : Front) → laid (boxWords (boxed n (map entryOf (drop 13 (wordsAt block))))) block ≡ laid (frontWords n) block
+  unfolding boxWords
+  stays n =
+      let f = frontWords n in
+      let rest = drop 13 (take 29 block) in
+      let long : length rest ≡ 16 = simp (length-drop, length-take) (omega (arith, h)) in
+      let all : length (f ++ rest) ≡ 29 = length-append f rest ∙ omega (arith, long, thirteen n) in
+      rw (whole, words-again rest, laid-over (f ++ rest) block (omega (arith, all, h)), all, laid-over f block (omega (arith, thirteen n, h)), thirteen n, append-assoc f rest (drop 29 block), seam 13 29 block (omega arith))
+
+  moved : (n : Front) → laid (boxWords (boxed n (entriesLeft n (map entryOf (drop 13 (wordsAt block)))))) block ≡ movedOn n block
+  unfolding movedOn
+  moved n = split (atRest (n .light) && isRegistered (n .registration .state)) refl
+    where
+      split : (t : Bool) → (atRest (n .light) && isRegistered (n .registration .state)) ≡ t
+          → laid (boxWords (boxed n (entriesLeft n (map entryOf (drop 13 (wordsAt block)))))) block ≡ movedOn n block
+      split true e = rw e (ap (λ (w : List ℕ). laid w block) (cleared n))
+      split false e = rw e (stays n)
+
+  quiet-call : (frames reply : List ℕ) → quietTick (frontOf (wordsAt block)) .quiet ≡ true
+      → settled (tickOf (boxAt block)) block frames reply
+      ≡ left 0 (movedOn (quietTick (frontOf (wordsAt block)) .next) block) frames (laid (toldWords (pos 0) 0 noNotices) reply)
+  unfolding boxAt boxOf settled handed toldOf
+  quiet-call frames reply q =
+      let n = quietTick (frontOf (wordsAt block)) .next in
+      rw (passes (frontOf (wordsAt block)) (map entryOf (drop 13 (wordsAt block))) q, moved n)
+
+-- the theorem, by what each step of the call left
+pub quiet-left : (t : Ticked) (f : Front) (w block frames reply b r : List ℕ) → w ≡ wordsAt block → f ≡ frontOf w → t ≡ quietTick f
+    → t .quiet ≡ true → passed b r ≡ passedOn (t .next) block reply → 29 ≤ length block
+    → left 0 b frames r ≡ settled (tickOf (boxAt block)) block frames reply
+unfolding passedOn
+quiet-left t f w block frames reply b r ew ef et q p h =
+    let is : t ≡ quietTick (frontOf (wordsAt block)) = et ∙ ap quietTick (ef ∙ ap frontOf ew) in
+    ap (λ (x : Passed). left 0 (x .block) frames (x .reply)) (p ∙ ap (λ (y : Ticked). passedOn (y .next) block reply) is)
+    ∙ sym (quiet-call block h frames reply (sym (ap (λ (y : Ticked). y .quiet) is) ∙ q))

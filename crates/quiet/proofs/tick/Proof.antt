@@ -1,0 +1,40 @@
+-- `quiet::tick` meets its promise.
+-- Assumes nothing.
+use Rattle.quiet.specs.Quiet.{tickOf}
+use borrow.Author.Needs.{needs}
+use Rattle.quiet.proofs.tick.Statement.{statement}
+use Rattle.quiet.proofs.tick.Tie as tie
+
+tick-requires : tie.Need-tick-requires
+tick-requires c κs = search needs
+
+tick-requires-2 : tie.Need-tick-requires-2
+tick-requires-2 c κs = search needs
+
+sound-requires : tie.Need-sound-requires
+sound-requires c κs = search needs
+
+is-silent-requires : tie.Need-is-silent-requires
+is-silent-requires c κs = search needs
+
+is-dark-requires : tie.Need-is-dark-requires
+is-dark-requires c κs = search needs
+
+next-requires : tie.Need-next-requires
+next-requires c κs = search needs
+
+returns : tie.Need-returns
+unfolding tickOf
+returns c = rw (c .next .ensures, c .before .is-dark .ensures, c .before .before .is-silent .ensures, c .before .before .before .sound .ensures, c .before .before .before .before .tick2 .ensures, c .before .before .before .before .before .before .tick .ensures)
+
+pub tick-spec : {M : Type 1} → statement M
+tick-spec =
+    tie.close
+    (tie.spec
+    tick-requires
+    tick-requires-2
+    sound-requires
+    is-silent-requires
+    is-dark-requires
+    next-requires
+    returns)
