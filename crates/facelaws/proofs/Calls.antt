@@ -9,8 +9,8 @@ use native.Mathlib.Omega.{arith}
 use lib.Dec.{eqb}
 use lib.ListN.{length, take, drop, replicate, length-append, length-map}
 use lib.Seq.{take-at}
-use Rattle.boxwords.specs.Box.{entryWord, boxWords, boxOf}
-use Rattle.crustnewt.specs.Calls.{Left, boxAt, isLent, handed, settled, boxCall}
+use Rattle.boxwords.specs.Box.{entryWord, frontWords, boxWords, boxOf}
+use Rattle.crustnewt.specs.Calls.{Left, wordsAt, boxAt, isLent, handed, settled, boxCall}
 use Rattle.floorbox.specs.declared.Answer.{Answer}
 use Rattle.floorbox.specs.declared.FloorBox.{FloorBox}
 use Rattle.frame.specs.Card.{numberOf}
@@ -24,12 +24,12 @@ abbrev pub Sixteen : FloorBox → Type 0
 Sixteen b = length (b .processes .list .entries) ≡ 16
 
 size : (b : FloorBox) → Sixteen b → length (boxWords b) ≡ 29
-unfolding boxWords
+unfolding boxWords frontWords
 size b h = rw (length-map (b .processes .list .entries) entryWord, h)
 
 -- a box laid into a block is there
 pub stands : (b : FloorBox) (block : List ℕ) → Fits b → Sixteen b → 29 ≤ length block → boxAt (laid (boxWords b) block) ≡ b
-unfolding boxAt
+unfolding boxAt wordsAt
 stands b block f s h =
     let n : length (boxWords b) ≡ 29 = size b s in
     let over : laid (boxWords b) block ≡ boxWords b ++ drop 29 block =

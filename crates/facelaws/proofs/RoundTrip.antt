@@ -20,7 +20,7 @@ use Rattle.registration.specs.declared.State.{State}
 use Rattle.registration.specs.declared.State.the-variants.{Wait, Registering, RegisterReq, Registered}
 use Rattle.words.specs.Words.{narrowed, laid}
 use Rattle.words.specs.Laws.{laid-whole}
-use Rattle.boxwords.specs.Box.{entryWord, entryOf, stateWord, stateOf, timerOf, quantaOf, waitOf, portOf, registrationOf, lightWords, lightOf, addressOf, boxWords, boxOf}
+use Rattle.boxwords.specs.Box.{entryWord, entryOf, stateWord, stateOf, timerOf, quantaOf, waitOf, portOf, registrationOf, lightWords, lightOf, addressOf, frontWords, frontOf, boxWords, boxOf}
 
 abbrev pub TimerFits : Timer → Type 0
 TimerFits t = t .left < 2 ^ 32
@@ -121,7 +121,7 @@ registration-back r hw hd hr hp hs =
 
 -- the theorem
 pub unpacked : (b : FloorBox) → Fits b → boxOf (boxWords b) ≡ b
-unfolding boxOf boxWords addressOf
+unfolding boxOf boxWords frontOf frontWords addressOf
 unpacked b h =
     let p = b .processes in
     rw (
