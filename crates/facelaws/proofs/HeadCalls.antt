@@ -1,33 +1,35 @@
 -- The head and the links that a call of the C face leaves in the words are those that the core's call answers with, whether it is done or
 -- refused: so a run of face calls is the core's run. And where more links are lent than a table may have, the face answers as the core does.
 -- Assumes nothing.
-use Prim.Native.Nat.{ℕ, _+_, _*_, _-_, _/_, _≤_}
+use Prim.Native.Nat.{ℕ, _*_, _/_, _≤_}
 use mathlib.Core.Path.{_≡_, refl, sym, ap, _∙_}
 use mathlib.Core.Bool.{Bool, true, false, cond, _&&_, and-eq-true-iff}
-use mathlib.Core.List.{List, [], _∷_, _++_}
+use mathlib.Core.List.{List, [], _++_}
 use mathlib.Core.Logic.{_≢_}
 use native.Mathlib.Omega.{arith}
 use borrow.Author.Tests.{leb-true, eqb-false}
-use lib.Dec.{eqb, leb}
-use lib.ListN.{length, take, drop, replicate, length-append, length-drop}
+use lib.Dec.{leb}
+use lib.ListN.{length, drop, replicate, length-append, length-drop}
 use lib.Seq.{take-at}
-use Rattle.frame.specs.Card.{numberOf, answerOf}
+use Rattle.frame.specs.Card.{numberOf}
 use Rattle.frame.specs.declared.Address.{Address}
 use Rattle.frame.specs.declared.Reply.{Reply}
 use Rattle.frame.specs.declared.Reply.the-variants.{Done, Unsound}
-use Rattle.head.specs.Head.{soundOf, begun}
+use Rattle.head.specs.Head.{soundOf}
 use Rattle.head.specs.declared.Head.{Head}
 use Rattle.headcall.specs.Calls.{Left, left, BegunLeft, begunLeft, headAt, isLent, laidHead, keptHead, keptLinks, handed, servedOf, cleared, begunOf}
-use Rattle.headlaws.specs.Calls.{allTests}
-use Rattle.headlaws.specs.Fresh.{nobody, fresh-unsound}
+use Rattle.headlaws.specs.Fresh.{fresh-unsound, fresh-refused}
+use Rattle.headlaws.specs.Places.{length-places}
 use Rattle.headlaws.specs.Refusals.{telling, call-reply, refused-unchanged}
 use Rattle.headlaws.specs.Sound.{call-length}
 use Rattle.headwords.specs.Head.{headWords, headOf}
 use Rattle.headwords.specs.Laws.{links-few, length-links, length-table}
 use Rattle.headwords.specs.Table.{tableWords, linksOf, linksIn, linksAt}
 use Rattle.judging.specs.declared.Request.{Request}
+use Rattle.lent.specs.Folds.{places}
+use Rattle.links.specs.Link.{idle}
 use Rattle.links.specs.declared.Link.{Link}
-use Rattle.serving.specs.Fresh.{Freshly, freshly, isDone, freshOf}
+use Rattle.serving.specs.Fresh.{Freshly, isDone, begunOf as madeOf, freshOf}
 use Rattle.serving.specs.Serve.{Served, served, serveOf}
 use Rattle.survey.specs.Facts.{isFew, soundTable}
 use Rattle.words.specs.Laws.{laid-over, laid-whole}
@@ -62,6 +64,14 @@ lent-head : (a b : ℕ) → isLent a b ≡ true → 5 ≤ a
 unfolding isLent
 lent-head a b e = leb-true 5 a (and-eq-true-iff (leb 5 a) (leb 4 b) .0 e .0)
 
+fresh-by : (t : Bool) (xs : List Link) → length (cond t (places (λ k l. idle) 1 xs) xs) ≡ length xs
+fresh-by true xs = length-places (λ k l. idle) 1 xs
+fresh-by false xs = refl
+
+fresh-length : (a : Address) (xs : List Link) → length (freshOf a xs .table) ≡ length xs
+unfolding freshOf
+fresh-length a xs = fresh-by (isDone (madeOf a (length xs) .reply)) xs
+
 not-done : (x : Reply) → isDone x ≡ false → x ≢ Done
 not-done x e d = eqb-false (numberOf x) 0 e (ap numberOf d)
 
@@ -95,6 +105,31 @@ module _ (r : Request) (head links output reply : List ℕ) (lent : isLent (leng
         ap (λ (l : Left). headAt (l .head)) is-handed ∙ k .0,
         ap (λ (l : Left). linksAt (l .links)) is-handed ∙ k .1,
       )
+
+module _ (a : Address) (head links reply : List ℕ) (lent : isLent (length head) (length reply) ≡ true) where
+  abbrev made : Freshly
+  made = freshOf a (linksAt links)
+
+  fresh-handed : begunOf a head links reply ≡ cleared made head links reply
+  unfolding begunOf
+  fresh-handed = rw lent
+
+  fresh-still : (t : Bool) → isDone (made .answer .reply) ≡ t → LinksFit (made .table)
+      → linksAt (keptLinks (made .answer) (made .table) links) ≡ made .table
+  unfolding keptLinks
+  fresh-still true e g =
+      rw e (links-stand (made .table) links g (fresh-length a (linksAt links) ∙ length-links (linksIn (length links)) links))
+  fresh-still false e g =
+      rw e (sym (ap (λ (m : Freshly). m .table) (fresh-refused a (linksAt links) (not-done (made .answer .reply) e))))
+
+  -- the same of a fresh head: a refused one stands in the block too, with address zero
+  pub fresh-there : HeadFits (made .answer .next) → LinksFit (made .table)
+      → (headAt (begunOf a head links reply .head) ≡ made .answer .next) × (linksAt (begunOf a head links reply .links) ≡ made .table)
+  unfolding cleared laidHead
+  fresh-there f g = (
+    ap (λ (l : BegunLeft). headAt (l .head)) fresh-handed ∙ head-stands (made .answer .next) head f (lent-head (length head) (length reply) lent),
+    ap (λ (l : BegunLeft). linksAt (l .links)) fresh-handed ∙ fresh-still (isDone (made .answer .reply)) refl g,
+  )
 
 -- more links than a table may have
 neither : (t u : Bool) → u ≡ false → (t && u) ≡ false

@@ -1,9 +1,9 @@
 -- A call over the loaded table is the core's over the links that the words tell.
 -- Assumes nothing.
-use Prim.Native.Nat.{ℕ, suc, _+_, _*_, _-_, _≤_}
+use Prim.Native.Nat.{ℕ, _*_, _-_, _≤_}
 use mathlib.Core.Path.{_≡_, refl, sym, ap, _∙_}
 use mathlib.Core.Bool.{Bool, true, false, cond}
-use mathlib.Core.List.{List, [], _∷_, _++_}
+use mathlib.Core.List.{List, _++_}
 use native.Mathlib.Omega.{arith}
 use native.Mathlib.Nat.{le-refl}
 use lib.Dec.{eqb}
@@ -13,7 +13,7 @@ use Rattle.frame.specs.Card.{numberOf}
 use Rattle.frame.specs.declared.Address.{Address}
 use Rattle.head.specs.declared.Head.{Head}
 use Rattle.headwords.specs.Laws.{links-few, length-links, length-table}
-use Rattle.headwords.specs.Table.{tableWords, linksOf, linksIn, linksAt, loaded, stored}
+use Rattle.headwords.specs.Table.{tableWords, linksIn, linksAt, loaded, stored}
 use Rattle.headwords.specs.Told.{toldWords}
 use Rattle.judging.specs.declared.Request.{Request}
 use Rattle.lent.specs.Folds.{places}

@@ -58,7 +58,7 @@ use Rattle.headwords.specs.Table.{loaded}
 use Rattle.headwords.proofs.load_links.Symbol as load-links-def
 use Rattle.headwords.proofs.load_links.Symbol.{name as #headwords·load-links}
 use Rattle.headwords.proofs.load_links.Met as load-links-thm
-use Rattle.headcall.specs.Lend.{Kept, kept, keptOf, clearOf}
+use Rattle.headcall.specs.Lend.{kept, keptOf, clearOf}
 use Rattle.headcall.proofs.Values.{is-now, Table-row, Table-mach, Table-typed}
 use Rattle.headcall.proofs.Calls.{LoadLinks, to-load-links, goes-load-links, Left-load-links, left-load-links, Fresh, to-fresh, goes-fresh, Left-fresh, left-fresh, Keep, to-keep, goes-keep, Left-keep, left-keep}
 use Rattle.headcall.proofs.keep.Symbol as keep-def

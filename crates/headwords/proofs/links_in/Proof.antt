@@ -1,7 +1,6 @@
 -- `headwords::links_in` meets its promise.
 -- Assumes nothing.
 use borrow.Author.Tests.{le-leb, lt-leb}
-use borrow.Author.Needs.{needs}
 use Rattle.headwords.specs.Table.{linksIn}
 use Rattle.headwords.proofs.links_in.Statement.{statement}
 use Rattle.headwords.proofs.links_in.Tie as tie
