@@ -1,4 +1,5 @@
-//! The checks find a core that is spoiled in a small way.
+//! The checks find the proved core where it is spoiled in a small way, and
+//! nothing where it isn't.
 
 use check::{check, check_fixed, compare, compare_wide};
 use crustnewt::replay::replay;
@@ -7,6 +8,7 @@ use plain::{
     Address, Body, FloorBox, Frame, GateRequest, Head, HeadNotice, HeadNoticeKind, Link, Message,
     Newcomer, Next, OpenWindow,
 };
+use proved::ProvedCore;
 
 /// What is wrong with a spoiled core.
 #[derive(Clone, Copy, Debug, PartialEq, Eq)]
@@ -40,6 +42,7 @@ enum Flaw {
     Panics,
 }
 
+/// The proved core with a flaw.
 struct Spoiled(Flaw);
 
 struct SpoiledHead(Flaw, Box<dyn HeadCore>);
@@ -49,14 +52,14 @@ struct SpoiledBox(Flaw, Box<dyn BoxCore>);
 impl Core for Spoiled {
     fn read(&self, frame: &[u8]) -> Result<Message, u8> {
         let padded = frame.get(45..).is_some_and(|pad| pad != [0; 15]);
-        match PlainCore.read(frame) {
+        match ProvedCore.read(frame) {
             Ok(_) if padded && self.0 == Flaw::ReadsPad => Err(4),
             read => read,
         }
     }
 
     fn write(&self, message: &Message) -> (u8, Frame) {
-        let (number, frame) = PlainCore.write(message);
+        let (number, frame) = ProvedCore.write(message);
         match self.0 {
             Flaw::WritesWide => (0, frame),
             _ => (number, frame),
@@ -64,11 +67,11 @@ impl Core for Spoiled {
     }
 
     fn head(&self) -> Box<dyn HeadCore> {
-        Box::new(SpoiledHead(self.0, PlainCore.head()))
+        Box::new(SpoiledHead(self.0, ProvedCore.head()))
     }
 
     fn floor_box(&self) -> Box<dyn BoxCore> {
-        Box::new(SpoiledBox(self.0, PlainCore.floor_box()))
+        Box::new(SpoiledBox(self.0, ProvedCore.floor_box()))
     }
 }
 
@@ -184,7 +187,7 @@ impl BoxCore for SpoiledBox {
     }
     fn hear(&mut self, frame: &[u8], random: u32) -> BoxReply {
         let reply = self.1.hear(frame, random);
-        let body = PlainCore.read(frame).map(|message| message.body);
+        let body = ProvedCore.read(frame).map(|message| message.body);
         let discovery = matches!(body, Ok(Body::Discovery { .. }));
         let registered = reply.number == 0 && self.1.state().watchdog > 0;
         if self.0 == Flaw::WatchdogOnDiscovery && discovery && registered {

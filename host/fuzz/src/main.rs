@@ -10,7 +10,7 @@ Makes runs of calls on every function of the C face, with words, octets and
 lengths of all kinds, and holds each against what the header promises of every
 call. Lent memory has guards on both sides.
 
-  --cases N  how many runs, of 60 calls each (default 40000, some 15 seconds)
+  --cases N  how many runs, of 60 calls each (default 80000, some 15 seconds)
   --seed S   seed of the first (default 1)
   --help     this text
 
@@ -43,7 +43,7 @@ fn main() -> ExitCode {
 
 /// Number of cases and first seed.
 fn options(words: &[String]) -> Option<(u64, u64)> {
-    let (mut cases, mut seed) = (40_000, 1);
+    let (mut cases, mut seed) = (80_000, 1);
     let (pairs, rest) = words.as_chunks();
     for [option, number] in pairs {
         let number = number.parse().ok()?;
