@@ -1,6 +1,6 @@
 //! Calls of the box.
 
-use super::{both, require, require_number, word, Left, DONE, SHORT, UNSOUND};
+use super::{both, require, require_number, word, Left, DONE, FILLERS, SHORT, UNSOUND};
 use crate::call::{BoxCall, Face};
 use crate::guarded::Guarded;
 use proved::sys::{BoxMemory, BOX_FRAMES_OCTETS, BOX_REPLY_WORDS, BOX_WORDS, FRAME_OCTETS};
@@ -51,9 +51,9 @@ const LAST_KIND: u64 = 8;
 /// Makes a call of a box and holds it against the header.
 pub fn judge_box(face: &dyn Face, call: &BoxCall, lent: &BoxLent) -> Result<Left, String> {
     let left = both(|filler| judge_with(face, call, lent, filler))?;
-    if left.number == DONE && *call != BoxCall::Tick {
-        // Every call leaves a sound box.
-        let again = judge_box(face, &BoxCall::Tick, &BoxLent::enough(&left.block))?;
+    if left.number == DONE {
+        let enough = BoxLent::enough(&left.block);
+        let again = judge_with(face, &BoxCall::Tick, &enough, FILLERS[0])?;
         require(again.number != UNSOUND, "a call left an unsound box")?;
     }
     Ok(left)

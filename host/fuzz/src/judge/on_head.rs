@@ -1,6 +1,6 @@
 //! Calls of the head.
 
-use super::{both, require, require_number, word, Left, DONE, SHORT, UNSOUND};
+use super::{both, require, require_number, word, Left, DONE, FILLERS, SHORT, UNSOUND};
 use crate::call::{Face, HeadCall};
 use crate::guarded::Guarded;
 use proved::sys::{HeadMemory, FRAME_OCTETS, HEAD_REPLY_WORDS, HEAD_WORDS, LINK_WORDS, MOST_LINKS};
@@ -59,10 +59,9 @@ const READING: [u8; 4] = [1, 2, 3, 4];
 /// Makes a call of a head and holds it against the header.
 pub fn judge_head(face: &dyn Face, call: &HeadCall, lent: &HeadLent) -> Result<Left, String> {
     let left = both(|filler| judge_with(face, call, lent, filler))?;
-    if left.number == DONE && *call != HeadCall::Tick {
-        // Every call leaves a sound head and table.
+    if left.number == DONE {
         let enough = HeadLent::enough(&left.block, &left.links);
-        let again = judge_head(face, &HeadCall::Tick, &enough)?;
+        let again = judge_with(face, &HeadCall::Tick, &enough, FILLERS[0])?;
         require(again.number != UNSOUND, "a call left an unsound head")?;
     }
     Ok(left)
