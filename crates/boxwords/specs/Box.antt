@@ -16,6 +16,7 @@ use Rattle.light.specs.declared.Light.the-variants.{Rest, Before, Random, Warmi
 use Rattle.registration.specs.declared.Registration.{Registration}
 use Rattle.registration.specs.declared.State.{State}
 use Rattle.registration.specs.declared.State.the-variants.{Wait, Registering, RegisterReq, Registered}
+use Rattle.fields.specs.Fields.{shortOf, quantaOf, timerOf, strange, addressOf}
 use Rattle.words.specs.Words.{narrowed}
 use Rattle.boxwords.specs.declared.Front.{Front}
 use Rattle.boxwords.specs.declared.LightWords.{LightWords}
@@ -39,22 +40,9 @@ stateWord Registered = 3
 unfoldable pub stateOf : ℕ → State
 stateOf w = cond (eqb w 0) Wait (cond (eqb w 1) Registering (cond (eqb w 2) RegisterReq Registered))
 
--- a timer that runs past every setting: sound in no state
-abbrev pub strange : Timer
-strange = record { left = 4294967295 }
-
-abbrev pub timerOf : ℕ → Timer
-timerOf w = record { left = narrowed w }
-
-abbrev pub quantaOf : ℕ → Quanta
-quantaOf w = record { 0 = narrowed w }
-
 -- words that are no state's or no port's make the wait strange
 unfoldable pub waitOf : ℕ → ℕ → ℕ → Timer
 waitOf state port wait = cond (ltb 3 state) strange (cond (ltb 65535 port) strange (timerOf wait))
-
-abbrev pub portOf : ℕ → ℕ
-portOf w = min w 65535
 
 abbrev pub registrationOf : ℕ → ℕ → ℕ → ℕ → ℕ → ℕ → Registration
 registrationOf state wait watchdog report port sync =
@@ -63,7 +51,7 @@ registrationOf state wait watchdog report port sync =
       wait = waitOf state port wait;
       watchdog = timerOf watchdog;
       report = timerOf report;
-      port = portOf port;
+      port = shortOf port;
       sync = quantaOf sync;
     }
 
@@ -93,10 +81,6 @@ lightOf w =
     (cond (eqb (w .phase) 5) (Due t (entryOf (w .grant)) sync)
     (cond (eqb (w .phase) 6) (Lit t (quantaOf (w .grant)) sync)
     (cond (eqb (w .phase) 7) (Open t) (Before strange (quantaOf 0) (quantaOf 0)))))))))
-
--- a count that has more than 32 bits is nobody's
-unfoldable pub addressOf : ℕ → ℕ → Address
-addressOf address count = cond (ltb 4294967295 count) (record { 0 = 0 }) (record { 0 = address })
 
 -- the words before the list's grants, in their order
 unfoldable pub frontWords : Front → List ℕ

@@ -2,7 +2,7 @@
 ghost use mathlib.Core.Path.{_≡_};
 ghost use mathlib.Core.Bool.{cond};
 ghost use mathlib.Core.List.{map};
-ghost use Rattle.boxwords.specs.Box.{entryWord, entryOf, stateWord, stateOf, strange, timerOf, quantaOf, waitOf, portOf, registrationOf, phaseWords, lightWords, lightOf, listOf, addressOf, frontWords, frontOf, boxWords, boxOf};
+ghost use Rattle.boxwords.specs.Box.{entryWord, entryOf, stateWord, stateOf, waitOf, registrationOf, phaseWords, lightWords, lightOf, listOf, frontWords, frontOf, boxWords, boxOf};
 ghost use Rattle.boxwords.specs.Told.{kindWords, noticeWords, toldWords};
 use clock::Count;
 use clock::Quanta;
@@ -20,8 +20,6 @@ use telling::Notices;
 
 // A number of 32 bits above another makes one word.
 const TURN: u64 = 0x100000000;
-
-const LARGEST: u32 = 0xFFFFFFFF;
 
 // The transmitter: its phase, the ticks left, what it holds of a grant, and the sync held.
 pub struct LightWords {
@@ -122,47 +120,17 @@ fn state_of(word: u64) -> State
     State::Registered
 }
 
-// A timer that runs past every setting: sound in no state.
-fn strange() -> Timer
-    ensures { λ r. ⌜ r ≡ strange ⌝ }
-{
-    Timer { left: LARGEST }
-}
-
-fn timer_of(word: u64) -> Timer
-    ensures { λ r. ⌜ r ≡ timerOf word ⌝ }
-{
-    Timer {
-        left: words::narrow(word),
-    }
-}
-
-fn quanta_of(word: u64) -> Quanta
-    ensures { λ r. ⌜ r ≡ quantaOf word ⌝ }
-{
-    Quanta(words::narrow(word))
-}
-
 // The wait of a registration; words that are no state's or no port's make it unsound.
 fn wait_of(state: u64, port: u64, wait: u64) -> Timer
     ensures { λ r. ⌜ r ≡ waitOf state port wait ⌝ }
 {
     if 3 < state {
-        return strange();
+        return fields::strange();
     }
     if 65535 < port {
-        return strange();
+        return fields::strange();
     }
-    timer_of(wait)
-}
-
-fn port_of(word: u64) -> u16
-    ensures { λ r. ⌜ r ≡ portOf word ⌝ }
-{
-    if word < 65535 {
-        return word as u16;
-    }
-    65535
+    fields::timer_of(wait)
 }
 
 fn registration_of(
@@ -178,10 +146,10 @@ fn registration_of(
     Registration {
         state: state_of(state),
         wait: wait_of(state, port, wait),
-        watchdog: timer_of(watchdog),
-        report: timer_of(report),
-        port: port_of(port),
-        sync: quanta_of(sync),
+        watchdog: fields::timer_of(watchdog),
+        report: fields::timer_of(report),
+        port: fields::short_of(port),
+        sync: fields::quanta_of(sync),
     }
 }
 
@@ -225,15 +193,15 @@ fn light_of(w: LightWords) -> Light
 {
     let phase = w.phase;
     let grant = w.grant;
-    let timer = timer_of(w.left);
-    let sync = quanta_of(w.sync);
+    let timer = fields::timer_of(w.left);
+    let sync = fields::quanta_of(w.sync);
     if phase == 0 {
         return Light::Rest;
     }
     if phase == 1 {
         return Light::Before {
             timer,
-            random: quanta_of(grant),
+            random: fields::quanta_of(grant),
             sync,
         };
     }
@@ -256,7 +224,7 @@ fn light_of(w: LightWords) -> Light
     if phase == 6 {
         return Light::Lit {
             timer,
-            length: quanta_of(grant),
+            length: fields::quanta_of(grant),
             sync,
         };
     }
@@ -264,20 +232,10 @@ fn light_of(w: LightWords) -> Light
         return Light::Open { timer };
     }
     Light::Before {
-        timer: strange(),
+        timer: fields::strange(),
         random: Quanta(0),
         sync: Quanta(0),
     }
-}
-
-// A count that has more than 32 bits is nobody's: the box holds address zero, and is unsound.
-fn address_of(address: u64, count: u64) -> Address
-    ensures { λ r. ⌜ r ≡ addressOf address count ⌝ }
-{
-    if 0xFFFFFFFF < count {
-        return Address(0);
-    }
-    Address(address)
 }
 
 pub fn front_words(f: Front) -> [u64; 13]
@@ -320,7 +278,7 @@ pub fn front_of(w: [u64; 29]) -> Front
         sync: w[11],
     };
     Front {
-        address: address_of(w[0], w[1]),
+        address: fields::address_of(w[0], w[1]),
         count: Count(words::narrow(w[1])),
         registration: registration_of(w[2], w[3], w[4], w[5], w[6], w[7]),
         light: light_of(held),

@@ -12,7 +12,8 @@ use Rattle.clock.specs.declared.Timer.{Timer}
 use Rattle.head.specs.declared.Head.{Head}
 use Rattle.head.specs.declared.Window.{Window}
 use Rattle.head.specs.declared.Window.the-variants.{Idle, Before, Inside}
-use Rattle.headwords.specs.Head.{timerOf, quantaOf, windowWords, windowOf, addressOf, headWords, headOf}
+use Rattle.headwords.specs.Head.{windowWords, windowOf, headWords, headOf}
+use Rattle.fields.specs.Fields.{timerOf, quantaOf, addressOf}
 use Rattle.headwords.specs.Table.{stateWord, stateOf, waitOf, linkWords, linkOf, tableWords, linksOf}
 use Rattle.links.specs.declared.Link.{Link}
 use Rattle.links.specs.declared.State.{State}

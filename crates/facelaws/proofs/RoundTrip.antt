@@ -20,7 +20,8 @@ use Rattle.registration.specs.declared.State.{State}
 use Rattle.registration.specs.declared.State.the-variants.{Wait, Registering, RegisterReq, Registered}
 use Rattle.words.specs.Words.{narrowed, laid}
 use Rattle.words.specs.Laws.{laid-whole}
-use Rattle.boxwords.specs.Box.{entryWord, entryOf, stateWord, stateOf, timerOf, quantaOf, waitOf, portOf, registrationOf, lightWords, lightOf, addressOf, frontWords, frontOf, boxWords, boxOf}
+use Rattle.boxwords.specs.Box.{entryWord, entryOf, stateWord, stateOf, waitOf, registrationOf, lightWords, lightOf, frontWords, frontOf, boxWords, boxOf}
+use Rattle.fields.specs.Fields.{timerOf, quantaOf, shortOf, addressOf}
 
 abbrev pub TimerFits : Timer → Type 0
 TimerFits t = t .left < 2 ^ 32
@@ -92,7 +93,7 @@ wait-back Registering port t hp h = rw (le-ltb 65535 port (omega arith)) (timer-
 wait-back RegisterReq port t hp h = rw (le-ltb 65535 port (omega arith)) (timer-back t h)
 wait-back Registered port t hp h = rw (le-ltb 65535 port (omega arith)) (timer-back t h)
 
-port-is : (n : ℕ) → n < 2 ^ 16 → portOf n ≡ n
+port-is : (n : ℕ) → n < 2 ^ 16 → shortOf n ≡ n
 port-is n h = omega arith
 
 light-back : (l : Light) → LightFits l → lightOf (lightWords l) ≡ l

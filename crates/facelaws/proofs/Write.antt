@@ -24,7 +24,8 @@ use Rattle.frame.specs.declared.RegisterFlag.the-variants as answer
 use Rattle.frame.specs.declared.RegisterReqFlag.{RegisterReqFlag}
 use Rattle.frame.specs.declared.RegisterReqFlag.the-variants as request
 use Rattle.framewords.specs.Message.{bodyWords, messageWords}
-use Rattle.framewords.specs.Tells.{octetOf, shortOf, grantOf, grantsOf, registerReqFlagOf, registerFlagOf, registerAckFlagOf, at, gateOf, bodyOf, messageOf, same, hasWords, isMessage}
+use Rattle.framewords.specs.Tells.{grantOf, grantsOf, registerReqFlagOf, registerFlagOf, registerAckFlagOf, at, gateOf, bodyOf, messageOf, same, hasWords, isMessage}
+use Rattle.fields.specs.Fields.{octetOf, shortOf}
 use Rattle.laws.specs.Cases.{either}
 use Rattle.words.specs.Words.{narrowed}
 use Rattle.writer.specs.Write.{writeOf}

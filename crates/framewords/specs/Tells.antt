@@ -20,20 +20,7 @@ use Rattle.frame.specs.declared.RegisterFlag.the-variants as answer
 use Rattle.frame.specs.declared.RegisterReqFlag.{RegisterReqFlag}
 use Rattle.frame.specs.declared.RegisterReqFlag.the-variants as request
 use Rattle.framewords.specs.Message.{messageWords}
-use Rattle.words.specs.Words.{narrowed}
-
--- a word too large for its field is taken as the field's largest
-abbrev pub octetOf : ℕ → ℕ
-octetOf w = min w 255
-
-abbrev pub shortOf : ℕ → ℕ
-shortOf w = min w 65535
-
-abbrev pub countOf : ℕ → Count
-countOf w = record { 0 = narrowed w }
-
-abbrev pub quantaOf : ℕ → Quanta
-quantaOf w = record { 0 = narrowed w }
+use Rattle.fields.specs.Fields.{octetOf, shortOf, countOf, quantaOf}
 
 abbrev pub grantOf : ℕ → ℕ → ℕ → Grant
 grantOf start length force = record { start = countOf start; length = quantaOf length; force = eqb force 1 }

@@ -2,9 +2,7 @@
 ghost use mathlib.Core.Path.{_≡_};
 ghost use mathlib.Core.Bool.{cond};
 ghost use Rattle.framewords.specs.Message.{grantWords, noGrant, fieldWords, gateWords, grantsWords, bodyWords, messageWords};
-ghost use Rattle.framewords.specs.Tells.{octetOf, shortOf, countOf, quantaOf, grantOf, grantsOf, registerReqFlagOf, registerFlagOf, registerAckFlagOf, gateOf, bodyOf, messageOf, same, hasWords};
-use clock::Count;
-use clock::Quanta;
+ghost use Rattle.framewords.specs.Tells.{grantOf, grantsOf, registerReqFlagOf, registerFlagOf, registerAckFlagOf, gateOf, bodyOf, messageOf, same, hasWords};
 use frame::Address;
 use frame::Body;
 use frame::Grant;
@@ -163,43 +161,12 @@ pub fn message_words(message: Message) -> [u64; 17]
     w
 }
 
-// A word too large for its field is taken as the field's largest, which has another word.
-fn octet_of(word: u64) -> u8
-    ensures { λ r. ⌜ r ≡ octetOf word ⌝ }
-{
-    if word < 255 {
-        return word as u8;
-    }
-    255
-}
-
-fn short_of(word: u64) -> u16
-    ensures { λ r. ⌜ r ≡ shortOf word ⌝ }
-{
-    if word < 65535 {
-        return word as u16;
-    }
-    65535
-}
-
-fn count_of(word: u64) -> Count
-    ensures { λ r. ⌜ r ≡ countOf word ⌝ }
-{
-    Count(words::narrow(word))
-}
-
-fn quanta_of(word: u64) -> Quanta
-    ensures { λ r. ⌜ r ≡ quantaOf word ⌝ }
-{
-    Quanta(words::narrow(word))
-}
-
 fn grant_of(start: u64, length: u64, force: u64) -> Grant
     ensures { λ r. ⌜ r ≡ grantOf start length force ⌝ }
 {
     Grant {
-        start: count_of(start),
-        length: quanta_of(length),
+        start: fields::count_of(start),
+        length: fields::quanta_of(length),
         force: force == 1,
     }
 }
@@ -276,7 +243,7 @@ fn body_of(w: [u64; 17]) -> Body
     if kind == 1 {
         return Body::Discovery {
             grant: grant_of(w[5], w[6], w[7]),
-            sync: quanta_of(w[4]),
+            sync: fields::quanta_of(w[4]),
         };
     }
     if kind == 2 {
@@ -285,21 +252,21 @@ fn body_of(w: [u64; 17]) -> Body
     if kind == 3 {
         return Body::RegisterReq {
             flag: register_req_flag_of(w[4]),
-            pending: octet_of(w[5]),
+            pending: fields::octet_of(w[5]),
         };
     }
     if kind == 4 {
         return Body::Register {
-            port: short_of(w[5]),
+            port: fields::short_of(w[5]),
             flag: register_flag_of(w[4]),
-            sync: quanta_of(w[6]),
-            pending: octet_of(w[7]),
+            sync: fields::quanta_of(w[6]),
+            pending: fields::octet_of(w[7]),
         };
     }
     Body::RegisterAck {
         flag: register_ack_flag_of(w[4]),
-        port: short_of(w[5]),
-        sync: quanta_of(w[6]),
+        port: fields::short_of(w[5]),
+        sync: fields::quanta_of(w[6]),
     }
 }
 
@@ -310,7 +277,7 @@ pub fn message_of(w: [u64; 17]) -> Message
     Message {
         destination: Address(w[0]),
         source: Address(w[1]),
-        timestamp: count_of(w[2]),
+        timestamp: fields::count_of(w[2]),
         body: body_of(w),
     }
 }

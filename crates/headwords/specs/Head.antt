@@ -11,18 +11,9 @@ use Rattle.frame.specs.declared.Address.{Address}
 use Rattle.head.specs.declared.Head.{Head}
 use Rattle.head.specs.declared.Window.{Window}
 use Rattle.head.specs.declared.Window.the-variants.{Idle, Before, Inside}
+use Rattle.fields.specs.Fields.{quantaOf, timerOf, strange, addressOf}
 use Rattle.words.specs.Words.{narrowed}
 use Rattle.headwords.specs.declared.WindowWords.{WindowWords}
-
--- a timer that runs past every setting: sound in no state
-abbrev pub strange : Timer
-strange = record { left = 4294967295 }
-
-abbrev pub timerOf : ℕ → Timer
-timerOf w = record { left = narrowed w }
-
-abbrev pub quantaOf : ℕ → Quanta
-quantaOf w = record { 0 = narrowed w }
 
 -- what a phase does not hold is 0
 abbrev pub windowWords : Window → WindowWords
@@ -36,10 +27,6 @@ windowOf w =
     cond (eqb (w .phase) 0) Idle
     (cond (eqb (w .phase) 1) (Before t (quantaOf (w .length)))
     (cond (eqb (w .phase) 2) (Inside t) (Inside strange)))
-
--- a count that has more than 32 bits is nobody's
-unfoldable pub addressOf : ℕ → ℕ → Address
-addressOf address count = cond (ltb 4294967295 count) (record { 0 = 0 }) (record { 0 = address })
 
 -- the words of a head, in their order
 unfoldable pub headWords : Head → List ℕ

@@ -10,7 +10,7 @@ use Rattle.links.specs.Link.{idle}
 use Rattle.links.specs.declared.Link.{Link}
 use Rattle.links.specs.declared.State.{State}
 use Rattle.links.specs.declared.State.the-variants.{Idle, Waiting, Registered}
-use Rattle.headwords.specs.Head.{strange, timerOf}
+use Rattle.fields.specs.Fields.{strange, timerOf}
 use Rattle.headwords.specs.declared.LinkWords.{LinkWords}
 
 abbrev pub stateWord : State → ℕ

@@ -3,11 +3,10 @@ ghost use mathlib.Core.Path.{_≡_};
 ghost use Prim.Native.Nat.{_+_, _≤_};
 ghost use mathlib.Core.List.{_++_};
 ghost use lib.ListN.{length, take, drop};
-ghost use Rattle.headwords.specs.Head.{strange, timerOf, quantaOf, windowWords, windowOf, addressOf, headWords, headOf};
+ghost use Rattle.headwords.specs.Head.{windowWords, windowOf, headWords, headOf};
 ghost use Rattle.headwords.specs.Table.{stateWord, stateOf, waitOf, linkWords, linkOf, five, wordsAt, linksIn, loaded, stored};
 ghost use Rattle.headwords.specs.Told.{kindWord, toldWords};
 use clock::Count;
-use clock::Quanta;
 use clock::Timer;
 use frame::Address;
 use head::Head;
@@ -16,8 +15,6 @@ use links::Link;
 use links::State;
 use plans::Kind;
 use serving::Answer;
-
-const LARGEST: u32 = 0xFFFFFFFF;
 
 // Words of a link.
 const LINK: usize = 5;
@@ -35,27 +32,6 @@ pub struct LinkWords {
     pub wait: u64,
     pub watchdog: u64,
     pub periodic: u64,
-}
-
-// A timer that runs past every setting: sound in no state.
-fn strange() -> Timer
-    ensures { λ r. ⌜ r ≡ strange ⌝ }
-{
-    Timer { left: LARGEST }
-}
-
-fn timer_of(word: u64) -> Timer
-    ensures { λ r. ⌜ r ≡ timerOf word ⌝ }
-{
-    Timer {
-        left: words::narrow(word),
-    }
-}
-
-fn quanta_of(word: u64) -> Quanta
-    ensures { λ r. ⌜ r ≡ quantaOf word ⌝ }
-{
-    Quanta(words::narrow(word))
 }
 
 fn window_words(window: Window) -> WindowWords
@@ -86,30 +62,22 @@ fn window_of(w: WindowWords) -> Window
 {
     let phase = w.phase;
     let length = w.length;
-    let timer = timer_of(w.left);
+    let timer = fields::timer_of(w.left);
     if phase == 0 {
         return Window::Idle;
     }
     if phase == 1 {
         return Window::Before {
             timer,
-            length: quanta_of(length),
+            length: fields::quanta_of(length),
         };
     }
     if phase == 2 {
         return Window::Inside { timer };
     }
-    Window::Inside { timer: strange() }
-}
-
-// A count that has more than 32 bits is nobody's: the head holds address zero, and is unsound.
-fn address_of(address: u64, count: u64) -> Address
-    ensures { λ r. ⌜ r ≡ addressOf address count ⌝ }
-{
-    if 0xFFFFFFFF < count {
-        return Address(0);
+    Window::Inside {
+        timer: fields::strange(),
     }
-    Address(address)
 }
 
 pub fn pack_head(h: Head) -> [u64; 5]
@@ -138,7 +106,7 @@ pub fn head_of(w: [u64; 5]) -> Head
         length: w[4],
     };
     Head {
-        address: address_of(w[0], w[1]),
+        address: fields::address_of(w[0], w[1]),
         count: Count(words::narrow(w[1])),
         window: window_of(held),
     }
@@ -171,9 +139,9 @@ fn wait_of(state: u64, wait: u64) -> Timer
     ensures { λ r. ⌜ r ≡ waitOf state wait ⌝ }
 {
     if 2 < state {
-        return strange();
+        return fields::strange();
     }
-    timer_of(wait)
+    fields::timer_of(wait)
 }
 
 fn link_words(l: Link) -> LinkWords
@@ -201,8 +169,8 @@ fn link_of(w: LinkWords) -> Link
         address: Address(w.address),
         state: state_of(state),
         wait: wait_of(state, w.wait),
-        watchdog: timer_of(w.watchdog),
-        periodic: timer_of(w.periodic),
+        watchdog: fields::timer_of(w.watchdog),
+        periodic: fields::timer_of(w.periodic),
     }
 }
 

@@ -16,14 +16,14 @@ timer-of-requires c κs = search needs
 timer-of-requires-2 : tie.Need-timer-of-requires-2
 timer-of-requires-2 c κs = search needs
 
-port-of-requires : tie.Need-port-of-requires
-port-of-requires c κs = search needs
+short-of-requires : tie.Need-short-of-requires
+short-of-requires c κs = search needs
 
 quanta-of-requires : tie.Need-quanta-of-requires
 quanta-of-requires c κs = search needs
 
 returns : tie.Need-returns
-returns c = rw (c .quanta-of .ensures, c .before .port-of .ensures, c .before .before .timer-of2 .ensures, c .before .before .before .timer-of .ensures, c .before .before .before .before .wait-of .ensures, c .before .before .before .before .before .state-of .ensures)
+returns c = rw (c .quanta-of .ensures, c .before .short-of .ensures, c .before .before .timer-of2 .ensures, c .before .before .before .timer-of .ensures, c .before .before .before .before .wait-of .ensures, c .before .before .before .before .before .state-of .ensures)
 
 pub registration-of-spec : {M : Type 1} → statement M
 registration-of-spec =
@@ -33,6 +33,6 @@ registration-of-spec =
     wait-of-requires
     timer-of-requires
     timer-of-requires-2
-    port-of-requires
+    short-of-requires
     quanta-of-requires
     returns)

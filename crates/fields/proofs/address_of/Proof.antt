@@ -1,9 +1,9 @@
--- `boxwords::address_of` meets its promise.
+-- `fields::address_of` meets its promise.
 -- Assumes nothing.
 use borrow.Author.Tests.{le-ltb, lt-ltb}
-use Rattle.boxwords.specs.Box.{addressOf}
-use Rattle.boxwords.proofs.address_of.Statement.{statement}
-use Rattle.boxwords.proofs.address_of.Tie as tie
+use Rattle.fields.specs.Fields.{addressOf}
+use Rattle.fields.proofs.address_of.Statement.{statement}
+use Rattle.fields.proofs.address_of.Tie as tie
 
 returns : tie.Need-returns
 unfolding addressOf

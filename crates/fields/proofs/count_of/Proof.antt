@@ -1,8 +1,8 @@
--- `framewords::count_of` meets its promise.
+-- `fields::count_of` meets its promise.
 -- Assumes nothing.
 use borrow.Author.Needs.{needs}
-use Rattle.framewords.proofs.count_of.Statement.{statement}
-use Rattle.framewords.proofs.count_of.Tie as tie
+use Rattle.fields.proofs.count_of.Statement.{statement}
+use Rattle.fields.proofs.count_of.Tie as tie
 
 narrow-requires : tie.Need-narrow-requires
 narrow-requires c κs = search needs

@@ -1,8 +1,8 @@
--- `headwords::quanta_of` meets its promise.
+-- `fields::quanta_of` meets its promise.
 -- Assumes nothing.
 use borrow.Author.Needs.{needs}
-use Rattle.headwords.proofs.quanta_of.Statement.{statement}
-use Rattle.headwords.proofs.quanta_of.Tie as tie
+use Rattle.fields.proofs.quanta_of.Statement.{statement}
+use Rattle.fields.proofs.quanta_of.Tie as tie
 
 narrow-requires : tie.Need-narrow-requires
 narrow-requires c κs = search needs

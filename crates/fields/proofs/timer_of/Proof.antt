@@ -1,8 +1,8 @@
--- `headwords::timer_of` meets its promise.
+-- `fields::timer_of` meets its promise.
 -- Assumes nothing.
 use borrow.Author.Needs.{needs}
-use Rattle.headwords.proofs.timer_of.Statement.{statement}
-use Rattle.headwords.proofs.timer_of.Tie as tie
+use Rattle.fields.proofs.timer_of.Statement.{statement}
+use Rattle.fields.proofs.timer_of.Tie as tie
 
 narrow-requires : tie.Need-narrow-requires
 narrow-requires c κs = search needs
