@@ -6,6 +6,7 @@ use mathlib.Core.Bool.{false, false≢true}
 use mathlib.Core.Logic.{⊎-elim}
 use native.Mathlib.Omega.{arith}
 use Rattle.laws.specs.Cases.{cut}
+use Rattle.clock.specs.Laws.{ticked-falls, ticked-rings}
 use Rattle.clock.specs.declared.Timer.{Timer}
 use Rattle.registration.specs.Registration.{isRegistered, isRegistering}
 use Rattle.registration.specs.declared.State.{State}
@@ -18,7 +19,7 @@ use Rattle.boxlaws.specs.Awaited.{timed-calm}
 use Rattle.boxlaws.specs.Steady.{Steady}
 use Rattle.boxend.proofs.Gauge.{watchdog-runs, wait-runs}
 use Rattle.boxend.proofs.Moves.{MovedBy, Idle, idle-unregistered, gone, unheld}
-use Rattle.boxend.proofs.Timed.{timer-falls, timer-rings, idle-timed, retry-timed, asking-timed, lost-timed, registered-timed}
+use Rattle.boxend.proofs.Timed.{idle-timed, retry-timed, asking-timed, lost-timed, registered-timed}
 use Rattle.boxend.proofs.Transmitted.{Shut, shut-of, asking-shut, shut-still, transmitted-unregistered}
 
 module _ (p : Processes) (s : Steady p) where
@@ -35,7 +36,7 @@ module _ (p : Processes) (s : Steady p) where
   pub registered-ticks : before .state ≡ Registered → 1 < before .watchdog .left
       → (tickOf p .next .registration .state ≡ Registered) × (tickOf p .next .registration .watchdog .left ≡ before .watchdog .left - 1)
   registered-ticks e h =
-      let g = timer-falls (before .watchdog) h in
+      let g = ticked-falls (before .watchdog) h in
       let t = registered-timed p e (g .0) in
       rw (settled (rw (t .0)) .0) (t .0, ap (λ (x : Timer). x .left) (t .1) ∙ g .1)
 
@@ -46,7 +47,7 @@ module _ (p : Processes) (s : Steady p) where
       × (tickOf p .second ≡ Nothing)
   unfolding tickOf
   asking-ticks e h =
-      let g = timer-falls (before .wait) h in
+      let g = ticked-falls (before .wait) h in
       let t = asking-timed p e (g .0) in
       let x = settled (rw (t .0)) in
       rw (x .0) (t .0, ap (λ (x : Timer). x .left) (t .1) ∙ g .1, t .2, x .1)
@@ -65,7 +66,7 @@ module _ (p : Processes) (s : Steady p) where
   retry-moves : before .state ≡ RegisterReq → before .wait .left ≤ 1 → Ticks
   unfolding tickOf
   retry-moves e h =
-      let t = retry-timed p e (timer-rings (before .wait) (omega (arith, wait-runs before (s .sound .registration) e .0))) in
+      let t = retry-timed p e (ticked-rings (before .wait) (omega (arith, wait-runs before (s .sound .registration) e .0))) in
       let x = shut-still (timed p .next) (subst Shut (sym (t .2)) (asking-shut p (s .awaited) e)) in
       gone (rw (x .0, t .0) tt) (λ _. (rw (t .1) tt, rw (x .1) tt))
 
@@ -80,7 +81,7 @@ module _ (p : Processes) (s : Steady p) where
 
   lost-moves : before .state ≡ Registered → before .watchdog .left ≤ 1 → Ticks
   lost-moves e h =
-      let t = lost-timed p e (timer-rings (before .watchdog) (omega (arith, watchdog-runs before (s .sound .registration) e .0))) in
+      let t = lost-timed p e (ticked-rings (before .watchdog) (omega (arith, watchdog-runs before (s .sound .registration) e .0))) in
       gone (rw (settled (rw t) .0, t) tt) (λ n. absurd (n e))
 
   registered-moves : before .state ≡ Registered → 1 < before .watchdog .left → Ticks

@@ -1,15 +1,10 @@
 -- The first stage of a tick: what the timers of the registration make of it, in each state.
 -- Assumes nothing.
-use Prim.Native.Nat.{_-_, _<_}
 use mathlib.Core.Path.{_≡_, refl}
 use mathlib.Core.Bool.{true, false}
-use native.Mathlib.Omega.{arith}
-use borrow.Author.Tests.{ne-eqb}
 use Rattle.laws.specs.Cases.{either}
 use Rattle.clock.specs.Counts.{nextOf}
-use Rattle.clock.specs.Laws.{ticked-on}
 use Rattle.clock.specs.Timers.{ticked}
-use Rattle.clock.specs.declared.Timer.{Timer}
 use Rattle.registration.specs.Tick.{tickWait, tickReport, tickWatchdog}
 use Rattle.registration.specs.declared.State.{State}
 use Rattle.registration.specs.declared.State.the-variants.{Wait, Registering, RegisterReq, Registered}
@@ -20,13 +15,6 @@ use Rattle.processes.specs.declared.Processes.{Processes}
 use Rattle.ticking.specs.Tick.{ring, timed}
 use Rattle.ticking.specs.declared.Stage.{Stage}
 use Rattle.boxend.proofs.Moves.{Idle}
-
--- a timer with more than one tick left falls by one, and at its last it rings
-pub timer-falls : (t : Timer) → 1 < t .left → (ticked t .rang ≡ false) × (ticked t .timer .left ≡ t .left - 1)
-timer-falls t h = rw (ticked-on t (omega arith)) (ne-eqb (t .left) 1 (omega arith), refl)
-
-pub timer-rings : (t : Timer) → t .left ≡ 1 → ticked t .rang ≡ true
-timer-rings t h = rw (ticked-on t (omega arith), h)
 
 -- a stage that leaves the registration as it was, and sends nothing
 abbrev pub Still : Processes → Stage → Type 0

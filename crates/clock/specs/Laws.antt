@@ -139,6 +139,14 @@ pub ticked-on :
 unfolding ticked
 ticked-on t h = rw (ne-eqb (t .left) 0 (omega arith))
 
+-- with more than one tick left it falls by one
+pub ticked-falls : (t : Timer) → 1 < t .left → (ticked t .rang ≡ false) × (ticked t .timer .left ≡ t .left - 1)
+ticked-falls t h = rw (ticked-on t (omega arith)) (ne-eqb (t .left) 1 (omega arith), refl)
+
+-- at its last it rings
+pub ticked-rings : (t : Timer) → t .left ≡ 1 → ticked t .rang ≡ true
+ticked-rings t h = rw (ticked-on t (omega arith), h)
+
 -- one that does not ring runs on, within the same longest setting
 pub ticked-runs : (t : Timer) (n : ℕ) → runs t n ≡ true → ticked t .rang ≡ false → runs (ticked t .timer) n ≡ true
 ticked-runs t n h e =

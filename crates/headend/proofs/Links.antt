@@ -6,7 +6,7 @@ use mathlib.Core.Bool.{Bool, true, false, true≢false, false≢true}
 use mathlib.Core.Logic.{⊎-elim}
 use native.Mathlib.Omega.{arith}
 use Rattle.laws.specs.Cases.{either}
-use Rattle.clock.specs.Laws.{runs-in}
+use Rattle.clock.specs.Laws.{runs-in, ticked-rings}
 use Rattle.clock.specs.Numbers.{watchdog, wait}
 use Rattle.frame.specs.declared.Address.{Address}
 use Rattle.frame.specs.declared.Body.the-variants.{Gate}
@@ -27,7 +27,7 @@ use Rattle.headlaws.specs.Links.{sound-in, waiting-parts, registered-parts}
 use Rattle.headlaws.specs.Ticks.{wait-out, watchdog-out}
 use Rattle.wire.specs.Restarts.{restartsBox}
 use Rattle.headend.specs.End.{HeldLink, RegisteredLink}
-use Rattle.headend.proofs.Timers.{rings, tick-waiting, tick-registered}
+use Rattle.headend.proofs.Timers.{tick-waiting, tick-registered}
 
 -- no link is in two states
 idle-registered : Idle ≡ Registered → ⊥
@@ -114,7 +114,7 @@ module _ (A : Address) where
   wait-behaves : (l : Link) (port left : ℕ) → l .state ≡ Waiting → l .wait .left ≡ left → 1 ≤ left → Behaves 1 false l (tickOf l port)
   wait-behaves l port zero e w o = absurd (omega arith)
   wait-behaves l port (suc zero) e w o =
-      subst (λ (x : Stepped). Behaves 1 false l x) (sym (wait-out l port e (rings (l .wait) w))) (dropped l port)
+      subst (λ (x : Stepped). Behaves 1 false l x) (sym (wait-out l port e (ticked-rings (l .wait) w))) (dropped l port)
   wait-behaves l port (suc (suc n)) e w o =
       let t = tick-waiting l port n e w in
       record {
@@ -130,7 +130,7 @@ module _ (A : Address) where
       → Behaves 1 false l (tickOf l port)
   watchdog-behaves l port zero e w o = absurd (omega arith)
   watchdog-behaves l port (suc zero) e w o =
-      subst (λ (x : Stepped). Behaves 1 false l x) (sym (watchdog-out l port e (rings (l .watchdog) w))) (dropped l port)
+      subst (λ (x : Stepped). Behaves 1 false l x) (sym (watchdog-out l port e (ticked-rings (l .watchdog) w))) (dropped l port)
   watchdog-behaves l port (suc (suc n)) e w o =
       let t = tick-registered l port n e w in
       let x = tickOf l port in

@@ -1,16 +1,12 @@
 -- A tick of a link with more than a tick left to its wait or its watchdog: the link stays, with one tick less.
 -- Assumes nothing.
-use Prim.Native.Nat.{ℕ, suc, _-_}
-use mathlib.Core.Path.{_≡_, refl, sym, ap, subst, _∙_}
-use mathlib.Core.Bool.{true, false}
+use Prim.Native.Nat.{ℕ, suc}
+use mathlib.Core.Path.{_≡_, refl, sym, subst}
 use mathlib.Core.Logic.{_⊎_, inl, inr}
 use native.Mathlib.Omega.{arith}
-use borrow.Author.Tests.{eq-eqb, ne-eqb}
 use Rattle.laws.specs.Cases.{either}
-use Rattle.clock.specs.Laws.{ticked-on}
+use Rattle.clock.specs.Laws.{ticked-falls}
 use Rattle.clock.specs.Timers.{ticked}
-use Rattle.clock.specs.declared.Ticked.{Ticked}
-use Rattle.clock.specs.declared.Timer.{Timer}
 use Rattle.frame.specs.declared.Body.the-variants.{Gate}
 use Rattle.frame.specs.declared.Grants.the-variants.{None}
 use Rattle.links.specs.Link.{isRegistered}
@@ -22,15 +18,6 @@ use Rattle.links.specs.declared.State.{State}
 use Rattle.links.specs.declared.State.the-variants.{Waiting, Registered}
 use Rattle.links.specs.declared.Stepped.{Stepped}
 
--- the last tick rings
-pub rings : (t : Timer) → t .left ≡ 1 → ticked t .rang ≡ true
-rings t e = ap (λ (x : Ticked). x .rang) (ticked-on t (omega arith)) ∙ eq-eqb (t .left) 1 e
-
-runs-on : (t : Timer) (n : ℕ) → t .left ≡ suc (suc n) → ticked t ≡ record { timer = record { left = suc n }; rang = false }
-runs-on t n e =
-    let less : t .left - 1 ≡ suc n = omega arith in
-    ticked-on t (omega arith) ∙ rw (less, ne-eqb (t .left) 1 (omega arith))
-
 pub record StillWaiting (l : Link) (n : ℕ) (x : Stepped) : Type 0 where
   pub state : x .link .state ≡ Waiting
   pub address : x .link .address ≡ l .address
@@ -40,8 +27,9 @@ pub record StillWaiting (l : Link) (n : ℕ) (x : Stepped) : Type 0 where
 pub tick-waiting : (l : Link) (port n : ℕ) → l .state ≡ Waiting → l .wait .left ≡ suc (suc n) → StillWaiting l (suc n) (tickOf l port)
 unfolding tickWait
 tick-waiting l port n e w =
+    let f = ticked-falls (l .wait) (omega arith) in
     subst (λ (s : State). StillWaiting l (suc n) (tickIn s l port)) (sym e)
-    (rw (runs-on (l .wait) n w) (record { state = e; address = refl; left = refl; sent = refl }))
+    (rw (f .0) (record { state = e; address = refl; left = omega (arith, f .1); sent = refl }))
 
 -- a periodic GATE goes to the link's own address
 pub record StillRegistered (l : Link) (n : ℕ) (x : Stepped) : Type 0 where
@@ -67,6 +55,7 @@ pub tick-registered : (l : Link) (port n : ℕ) → l .state ≡ Registered → 
     → StillRegistered l (suc n) (tickOf l port)
 unfolding tickWatchdog
 tick-registered l port n e w =
-    let p = tick-periodic (withWatchdog l (record { left = suc n })) e in
+    let f = ticked-falls (l .watchdog) (omega arith) in
+    let p = tick-periodic (withWatchdog l (ticked (l .watchdog) .timer)) e in
     subst (λ (s : State). StillRegistered l (suc n) (tickIn s l port)) (sym e)
-    (rw (runs-on (l .watchdog) n w) (record { state = p .state; address = p .address; left = p .left; sent = p .sent }))
+    (rw (f .0) (record { state = p .state; address = p .address; left = omega (arith, p .left, f .1); sent = p .sent }))
