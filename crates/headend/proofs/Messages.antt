@@ -21,7 +21,7 @@ use Rattle.links.specs.Link.{isRegistered}
 use Rattle.links.specs.declared.Link.{Link}
 use Rattle.survey.specs.Facts.{linkFrom}
 use Rattle.table.specs.declared.Event.{Event}
-use Rattle.heeding.specs.Hear.{isNewcomer, isFor, byParty, left, confirmed, reported, heardOf}
+use Rattle.heeding.specs.Hear.{isNewcomer, isFor, byParty, onRegistered, confirmed, heardOf}
 use Rattle.plans.specs.declared.Plan.{Plan}
 use Rattle.wire.specs.Restarts.{restartsHead}
 use Rattle.headend.proofs.Links.{May}
@@ -68,7 +68,7 @@ module _ (A : Address) where
     Does p = Touches kept l link (p .event)
 
     message-does : (body : Body) → (restartsHead body ≡ true → kept ≡ false → ¬ (l .address ≡ A)) → Does (heardOf body h l link trip)
-    unfolding left reported confirmed
+    unfolding onRegistered confirmed
     message-does (Gate grants) c = tt
     message-does (Discovery grant sync) c = tt
     message-does Report c = either Does (isRegistered (l .state)) _ _ (λ _. (refl, c refl)) (λ _. tt)

@@ -20,7 +20,8 @@ use Rattle.links.specs.declared.Change.{Change}
 use Rattle.links.specs.declared.Link.{Link}
 use Rattle.links.specs.declared.Sent.{Sent}
 use Rattle.table.specs.declared.Event.{Event}
-use Rattle.heeding.specs.Hear.{onLink, left, confirmedBy, confirmed, reported, requested, heardOf}
+use Rattle.heeding.specs.Hear.{onLink, onRegistered, confirmedBy, confirmed, requested, heardOf}
+use Rattle.plans.specs.declared.Kind.{Kind}
 use Rattle.plans.specs.declared.Plan.{Plan}
 use Rattle.headlaws.specs.Steps.{Allowed}
 
@@ -55,16 +56,10 @@ pub record Heard (h : Head) (l : Link) (link : ℕ) (p : Plan) : Type 0 where
   pub event : Heeds (p .event) l link
 
 module _ (h : Head) (l : Link) (link : ℕ) (trip : Quanta) where
-  left-heard : Heard h l link (left h l link trip)
-  unfolding left
-  left-heard =
-      either (Heard h l link) (isRegistered (l .state)) _ _ (λ _. record { reply = refl; head = refl; lead = refl; event = (refl, tt) })
-      (λ _. record { reply = refl; head = refl; lead = refl; event = tt })
-
-  reported-heard : Heard h l link (reported h l link trip)
-  unfolding reported
-  reported-heard =
-      either (Heard h l link) (isRegistered (l .state)) _ _ (λ i. record { reply = refl; head = refl; lead = refl; event = (refl, i) })
+  registered-heard : (c : Change) (kind : Kind) → (isRegistered (l .state) ≡ true → ByMessage c l) → Heard h l link (onRegistered c kind h l link trip)
+  unfolding onRegistered
+  registered-heard c kind b =
+      either (Heard h l link) (isRegistered (l .state)) _ _ (λ i. record { reply = refl; head = refl; lead = refl; event = (refl, b i) })
       (λ _. record { reply = refl; head = refl; lead = refl; event = tt })
 
   confirmed-by : (flag : RegisterAckFlag) → isHeld (l .state) ≡ true → Heard h l link (confirmedBy flag h link trip)
@@ -79,13 +74,13 @@ module _ (h : Head) (l : Link) (link : ℕ) (trip : Quanta) where
 
   requested-heard : (flag : RegisterReqFlag) → Heard h l link (requested flag h l link trip)
   requested-heard RegisterReqFlag.Register = record { reply = refl; head = refl; lead = refl; event = tt }
-  requested-heard RegisterReqFlag.Deregister = left-heard
+  requested-heard RegisterReqFlag.Deregister = registered-heard Change.Deregister Kind.Dropped (λ _. tt)
 
   heard : (body : Body) → onLink body l link ≡ true → Heard h l link (heardOf body h l link trip)
   unfolding onLink
   heard (Gate grants) i = record { reply = refl; head = refl; lead = refl; event = tt }
   heard (Discovery grant sync) i = record { reply = refl; head = refl; lead = refl; event = tt }
-  heard Report i = reported-heard
+  heard Report i = registered-heard Change.Report Kind.Report (λ r. r)
   heard (RegisterReq flag pending) i = requested-heard flag
   heard (Register port flag sync pending) i = record { reply = refl; head = refl; lead = refl; event = tt }
   heard (RegisterAck flag port sync) i = confirmed-heard flag i

@@ -24,7 +24,7 @@ use Rattle.links.specs.declared.Sent.{Sent}
 use Rattle.survey.specs.Facts.{linkFrom}
 use Rattle.table.specs.Output.{messageOf}
 use Rattle.table.specs.declared.Event.{Event}
-use Rattle.heeding.specs.Hear.{isNewcomer, onLink, left, confirmed, reported, heardOf}
+use Rattle.heeding.specs.Hear.{isNewcomer, onLink, onRegistered, confirmed, heardOf}
 use Rattle.judging.specs.Judge.{lookOf}
 use Rattle.plans.specs.Plan.{quiet, telling}
 use Rattle.plans.specs.declared.Kind.{Kind}
@@ -98,13 +98,13 @@ module _ (h : Head) (xs : List Link) (os : List ℕ) (link : ℕ) (m : Message) 
     pub leave-heard : (pending : ℕ) → m .body ≡ RegisterReq RegisterReqFlag.Deregister pending → isRegistered (l .state) ≡ true
         → Does h xs r os link idle (messageOf (from h) (l .address) (Register link RegisterFlag.Deregister (record { 0 = 0 }) 0) ∷ [])
         (told Kind.Dropped link trip)
-    unfolding left
+    unfolding onRegistered
     leave-heard pending e i = changes (RegisterReq RegisterReqFlag.Deregister pending) Change.Deregister Kind.Dropped e refl (rw i)
 
     -- REPORT on a registered link restarts its watchdog
     pub report-heard : m .body ≡ Report → isRegistered (l .state) ≡ true
         → Does h xs r os link (withWatchdog l (record { left = watchdog })) [] (told Kind.Report link trip)
-    unfolding reported
+    unfolding onRegistered
     report-heard e i = changes Report Change.Report Kind.Report e refl (rw i)
 
     -- a message that finds no step is answered 0, without notice or frame
@@ -115,9 +115,9 @@ module _ (h : Head) (xs : List Link) (os : List ℕ) (link : ℕ) (m : Message) 
 
     pub leave-passed : (pending : ℕ) → m .body ≡ RegisterReq RegisterReqFlag.Deregister pending → isRegistered (l .state) ≡ false
         → Leads h xs r os h [] quiet
-    unfolding left
+    unfolding onRegistered
     leave-passed pending e w = passes (RegisterReq RegisterReqFlag.Deregister pending) quiet e (rw w)
 
     pub report-passed : m .body ≡ Report → isRegistered (l .state) ≡ false → Leads h xs r os h [] quiet
-    unfolding reported
+    unfolding onRegistered
     report-passed e w = passes Report quiet e (rw w)

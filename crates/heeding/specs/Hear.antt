@@ -68,10 +68,10 @@ byParty h l m = isFor h (m .destination) && (isNewcomer (m .body) || eqb (m .sou
 abbrev pub noStep : Head → Plan
 noStep h = accepted h Event.Nothing
 
--- REGISTER_REQ flag 3 deregisters a registered link
-unfoldable pub left : Head → Link → ℕ → Quanta → Plan
-left h l link trip =
-    cond (isRegistered (l .state)) (telling h (Event.At link Change.Deregister) Kind.Dropped link trip) (noStep h)
+-- what only a registered link heeds, and the notice of it
+unfoldable pub onRegistered : Change → Kind → Head → Link → ℕ → Quanta → Plan
+onRegistered change kind h l link trip =
+    cond (isRegistered (l .state)) (telling h (Event.At link change) kind link trip) (noStep h)
 
 -- REGISTER_ACK while waiting: 1 registers, 0 deregisters; echoes aren't judged
 abbrev pub confirmedBy : RegisterAckFlag → Head → ℕ → Quanta → Plan
@@ -81,18 +81,14 @@ confirmedBy RegisterAckFlag.Nack h link trip = telling h (Event.At link Change.D
 unfoldable pub confirmed : RegisterAckFlag → Head → Link → ℕ → Quanta → Plan
 confirmed flag h l link trip = cond (isRegistered (l .state)) (noStep h) (confirmedBy flag h link trip)
 
--- REPORT on a registered link restarts its watchdog
-unfoldable pub reported : Head → Link → ℕ → Quanta → Plan
-reported h l link trip =
-    cond (isRegistered (l .state)) (telling h (Event.At link Change.Report) Kind.Report link trip) (noStep h)
-
--- REGISTER_REQ flag 1 gives a notice, with link 0
+-- REGISTER_REQ flag 1 gives a notice, with link 0; flag 3 deregisters a registered link
 abbrev pub requested : RegisterReqFlag → Head → Link → ℕ → Quanta → Plan
 requested RegisterReqFlag.Register h l link trip = telling h Event.Nothing Kind.Request 0 trip
-requested RegisterReqFlag.Deregister h l link trip = left h l link trip
+requested RegisterReqFlag.Deregister h l link trip = onRegistered Change.Deregister Kind.Dropped h l link trip
 
 abbrev pub heardOf : Body → Head → Link → ℕ → Quanta → Plan
-heardOf Report h l link trip = reported h l link trip
+-- REPORT on a registered link restarts its watchdog
+heardOf Report h l link trip = onRegistered Change.Report Kind.Report h l link trip
 heardOf (RegisterReq flag pending) h l link trip = requested flag h l link trip
 heardOf (RegisterAck flag port sync) h l link trip = confirmed flag h l link trip
 -- GATE and REGISTER are 5

@@ -1,6 +1,6 @@
 // What the head makes of a message: the tests, in their order, and what is to be done.
 ghost use mathlib.Core.Path.{_≡_};
-ghost use Rattle.heeding.specs.Hear.{isFromBox, asksToRegister, isNewcomer, isFor, onLink, inState, byParty, left, confirmed, reported, requested, heardOf, hearOf};
+ghost use Rattle.heeding.specs.Hear.{isFromBox, asksToRegister, isNewcomer, isFor, onLink, inState, byParty, onRegistered, confirmed, requested, heardOf, hearOf};
 use clock::Quanta;
 use frame::Address;
 use frame::Body;
@@ -113,13 +113,12 @@ fn by_party(head: Head, l: Link, message: Message) -> bool
     is_for(head, destination) & (is_newcomer(body) | (source.0 == its.0))
 }
 
-// REGISTER_REQ flag 3.
-fn left(head: Head, l: Link, link: usize, trip: Quanta) -> Plan
-    ensures { λ r. ⌜ r ≡ left head l link trip ⌝ }
+// What only a registered link heeds: REGISTER_REQ flag 3, REPORT.
+fn on_registered(head: Head, l: Link, link: usize, trip: Quanta, change: Change, kind: Kind) -> Plan
+    ensures { λ r. ⌜ r ≡ onRegistered change kind head l link trip ⌝ }
 {
     if l.is_registered() {
-        let event = Event::At(link, Change::Deregister);
-        return Plan::telling(head, event, Kind::Dropped, link, trip);
+        return Plan::telling(head, Event::At(link, change), kind, link, trip);
     }
     Plan::accepted(head, Event::Nothing)
 }
@@ -143,22 +142,14 @@ fn confirmed(head: Head, l: Link, link: usize, trip: Quanta, flag: RegisterAckFl
     }
 }
 
-fn reported(head: Head, l: Link, link: usize, trip: Quanta) -> Plan
-    ensures { λ r. ⌜ r ≡ reported head l link trip ⌝ }
-{
-    if l.is_registered() {
-        let event = Event::At(link, Change::Report);
-        return Plan::telling(head, event, Kind::Report, link, trip);
-    }
-    Plan::accepted(head, Event::Nothing)
-}
-
 fn requested(head: Head, l: Link, link: usize, trip: Quanta, flag: RegisterReqFlag) -> Plan
     ensures { λ r. ⌜ r ≡ requested flag head l link trip ⌝ }
 {
     match flag {
         RegisterReqFlag::Register => { Plan::telling(head, Event::Nothing, Kind::Request, 0, trip) }
-        RegisterReqFlag::Deregister => left(head, l, link, trip),
+        RegisterReqFlag::Deregister => {
+            on_registered(head, l, link, trip, Change::Deregister, Kind::Dropped)
+        }
     }
 }
 
@@ -168,7 +159,7 @@ fn heard(head: Head, l: Link, link: usize, trip: Quanta, body: Body) -> Plan
     match body {
         Body::Gate(_) => Plan::accepted(head, Event::Nothing),
         Body::Discovery { grant: _, sync: _ } => Plan::accepted(head, Event::Nothing),
-        Body::Report => reported(head, l, link, trip),
+        Body::Report => on_registered(head, l, link, trip, Change::Report, Kind::Report),
         Body::RegisterReq { flag, pending: _ } => requested(head, l, link, trip, flag),
         Body::Register {
             port: _,

@@ -19,8 +19,8 @@ accepted-requires-2 c κs = search needs
 enum-told-3 : tie.Need-enum-told-3
 enum-told-3 c = search needs
 
-reported-requires : tie.Need-reported-requires
-reported-requires c κs = search needs
+on-registered-requires : tie.Need-on-registered-requires
+on-registered-requires c κs = search needs
 
 enum-known-body : tie.Need-enum-known-body
 enum-known-body c = search needs
@@ -47,7 +47,7 @@ returns-2 : tie.Need-returns-2
 returns-2 c = rw (c .accepted2 .ensures, c .before .enum-told2 .given .1)
 
 returns-3 : tie.Need-returns-3
-returns-3 c = rw (c .reported .ensures, c .before .enum-told3 .given .1)
+returns-3 c = rw (c .on-registered .ensures, c .before .enum-told3 .given .1)
 
 returns-4 : tie.Need-returns-4
 returns-4 c = rw (c .requested .ensures, c .before .before .body .given .1)
@@ -67,7 +67,7 @@ heard-spec =
     enum-told-2
     accepted-requires-2
     enum-told-3
-    reported-requires
+    on-registered-requires
     enum-known-body
     requested-requires
     enum-told-4
