@@ -3,11 +3,12 @@
 use Prim.Native.Nat.{ℕ, _^_, _<_}
 use mathlib.Core.Path.{_≡_, ap}
 use mathlib.Core.Bool.{Bool}
+use Rattle.frame.specs.Tests.{Passed}
 use Rattle.frame.specs.declared.Address.{Address}
 use Rattle.floorbox.specs.Answer.{accepted}
 use Rattle.floorbox.specs.declared.Answer.{Answer}
 use Rattle.floorbox.specs.declared.FloorBox.{FloorBox}
-use Rattle.boxlaws.specs.Calls.{Call, answer, tests, step, drift, Passed, Outcome, unsound, refuses, accepts}
+use Rattle.boxlaws.specs.Calls.{Call, answer, tests, step, drift, Outcome, unsound, refuses, accepts}
 use Rattle.boxlaws.specs.Frames.{CallTyped, countAfter, step-sends, count-below, call-frames}
 use Rattle.boxlaws.specs.Steady.{call-steady}
 use Rattle.wire.specs.Restarts.{upRestarts}

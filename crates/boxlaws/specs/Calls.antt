@@ -10,7 +10,8 @@ use lib.Dec.{eqb}
 use lib.IntN.{ℤ, pos}
 use Rattle.laws.specs.Cases.{either}
 use Rattle.clock.specs.Counts.{driftOf}
-use Rattle.frame.specs.Card.{Test, _unless_, numberOf}
+use Rattle.frame.specs.Card.{Test, _unless_, given, numberOf}
+use Rattle.frame.specs.Tests.{Passed, Each, given-either}
 use Rattle.frame.specs.declared.Message.{Message}
 use Rattle.frame.specs.declared.Reply.{Reply}
 use Rattle.frame.specs.declared.Reply.the-variants.{Done, Range, Direction, State, Party, Unsound, Window}
@@ -21,7 +22,7 @@ use Rattle.processes.specs.Parts.{withCount, withRegistration, still}
 use Rattle.processes.specs.declared.Step.{Step}
 use Rattle.ticking.specs.Tick.{localDeregister, tickOf as processesTick}
 use Rattle.hearing.specs.Hear.{hearOf as processesHear}
-use Rattle.floorbox.specs.Answer.{refused, accepted, given}
+use Rattle.floorbox.specs.Answer.{refused, accepted}
 use Rattle.floorbox.specs.Box.{soundOf, registerOf, deregisterOf, tickOf}
 use Rattle.floorbox.specs.Hear.{isFromHead, isFor, heardOf, hearOf}
 use Rattle.floorbox.specs.declared.Answer.{Answer}
@@ -65,28 +66,12 @@ drift deregister b = pos 0
 drift (hear m random) b = driftOf (b .processes .count .0) (m .timestamp .0)
 drift tick b = pos 0
 
-answer-is : (c : Call) (b : FloorBox) → answer c b ≡ given (Unsound unless soundOf b ∷ tests c b) b (accepted b (drift c b) (step c b))
+answer-is : (c : Call) (b : FloorBox) → answer c b ≡ given (Unsound unless soundOf b ∷ tests c b) (refused b) (accepted b (drift c b) (step c b))
 unfolding registerOf deregisterOf heardOf hearOf tickOf
 answer-is register b = refl
 answer-is deregister b = refl
 answer-is (hear m random) b = refl
 answer-is tick b = refl
-
--- every test passed, and what holds of every reply of a list of tests
-abbrev pub Passed : List Test → Type 0
-Passed [] = Unit {0}
-Passed (r unless t ∷ ts) = (t ≡ true) × Passed ts
-
-abbrev Each : (Reply → Type 0) → List Test → Type 0
-Each Q [] = Unit {0}
-Each Q (r unless t ∷ ts) = Q r × Each Q ts
-
--- of any list of tests
-given-either : (Q : Reply → Type 0) (P : Answer → Type 0) (ts : List Test) (b : FloorBox) (a : Answer) → Each Q ts
-    → ((r : Reply) → Q r → P (refused b r)) → (Passed ts → P a) → P (given ts b a)
-given-either Q P [] b a q f g = g tt
-given-either Q P (r unless t ∷ ts) b a q f g =
-    either P t _ _ (λ e. given-either Q P ts b a (q .1) f (λ es. g (e, es))) (λ _. f r (q .0))
 
 -- neither 0 nor 13 is given by the tests after the first
 abbrev Other : Reply → Type 0
@@ -109,7 +94,7 @@ outcome c b =
     let a = accepted b (drift c b) (step c b) in
     rw (answer-is c b)
     (either (Outcome c b) (soundOf b) _ _
-    (λ s. given-either Other (Outcome c b) (tests c b) b a (tests-other c b) (λ r o. refuses s r (o .0) (o .1) refl) (λ h. accepts s h refl))
+    (λ s. given-either Other (Outcome c b) (tests c b) (refused b) a (tests-other c b) (λ r o. refuses s r (o .0) (o .1) refl) (λ h. accepts s h refl))
     (λ s. unsound s refl))
 
 -- nothing but its reply is told of a refusal

@@ -14,6 +14,7 @@ use Rattle.clock.specs.declared.Count.{Count}
 use Rattle.frame.specs.Card.{numberOf}
 use Rattle.frame.specs.Layout.{encode}
 use Rattle.frame.specs.Range.{BodyFits, Valid, Typed}
+use Rattle.frame.specs.Tests.{Passed}
 use Rattle.frame.specs.declared.Address.{Address}
 use Rattle.frame.specs.declared.Body.{Body}
 use Rattle.frame.specs.declared.Reply.{Reply}
@@ -32,7 +33,7 @@ use Rattle.floorbox.specs.Answer.{messageOf, refused, framed, accepted}
 use Rattle.floorbox.specs.Box.{soundOf}
 use Rattle.floorbox.specs.declared.Answer.{Answer}
 use Rattle.floorbox.specs.declared.FloorBox.{FloorBox}
-use Rattle.boxlaws.specs.Calls.{Call, register, deregister, hear, tick, answer, tests, step, drift, Passed, Outcome, unsound, refuses, accepts, outcome}
+use Rattle.boxlaws.specs.Calls.{Call, register, deregister, hear, tick, answer, tests, step, drift, Outcome, unsound, refuses, accepts, outcome}
 use Rattle.boxlaws.specs.Sends.{SentFits, Sends, tick-sends, hear-sends}
 
 -- what the types of the code's numbers see to

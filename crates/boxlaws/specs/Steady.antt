@@ -3,6 +3,7 @@
 use mathlib.Core.Path.{_≡_, refl}
 use mathlib.Core.Bool.{true, _&&_, and-eq-true-iff}
 use lib.Dec.{eqb}
+use Rattle.frame.specs.Tests.{Passed}
 use Rattle.frame.specs.declared.Message.{Message}
 use Rattle.range.specs.Fits.{fitsAddress, fitsBody, fitsMessage}
 use Rattle.registration.specs.declared.State.the-variants.{Registering}
@@ -15,7 +16,7 @@ use Rattle.floorbox.specs.declared.Answer.{Answer}
 use Rattle.floorbox.specs.declared.FloorBox.{FloorBox}
 use Rattle.boxlaws.specs.Activation.{activate-keeps}
 use Rattle.boxlaws.specs.Awaited.{Calm, any-awaited, activate-calm, tick-calm, hear-calm}
-use Rattle.boxlaws.specs.Calls.{Call, register, deregister, hear, tick, answer, tests, step, Passed, Outcome, unsound, refuses, accepts, outcome}
+use Rattle.boxlaws.specs.Calls.{Call, register, deregister, hear, tick, answer, tests, step, Outcome, unsound, refuses, accepts, outcome}
 use Rattle.boxlaws.specs.Hear.{hear-keeps}
 use Rattle.boxlaws.specs.Sound.{Sound, fresh-sound, count-keeps, registering-keeps, waiting-keeps}
 use Rattle.boxlaws.specs.Tick.{tick-keeps}

@@ -1,11 +1,7 @@
 -- Document 01, "Reply numbers" and "Steps of the box": what a call of the box is answered with.
 -- Assumes nothing.
-use Prim.Native.Nat.{ℕ}
-use mathlib.Core.Bool.{cond}
-use mathlib.Core.List.{List, [], _∷_}
 use lib.IntN.{ℤ, pos}
 use Rattle.clock.specs.declared.Count.{Count}
-use Rattle.frame.specs.Card.{Test, _unless_}
 use Rattle.frame.specs.declared.Address.{Address}
 use Rattle.frame.specs.declared.Body.{Body}
 use Rattle.frame.specs.declared.Message.{Message}
@@ -49,8 +45,3 @@ accepted b drift s =
       frames = framed own now (framed own now noFrames (s .first)) (s .second);
       notices = s .notices;
     }
-
--- of a list of tests the first that is not passed gives the answer
-abbrev pub given : List Test → FloorBox → Answer → Answer
-given [] b a = a
-given (r unless t ∷ ts) b a = cond t (given ts b a) (refused b r)

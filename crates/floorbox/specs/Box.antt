@@ -3,7 +3,7 @@
 use mathlib.Core.Bool.{Bool, cond, _&&_}
 use mathlib.Core.List.{[], _∷_}
 use lib.IntN.{pos}
-use Rattle.frame.specs.Card.{_unless_}
+use Rattle.frame.specs.Card.{_unless_, given}
 use Rattle.frame.specs.declared.Address.{Address}
 use Rattle.frame.specs.declared.Reply.the-variants.{Done, Range, State, Unsound, Window}
 use Rattle.range.specs.Fits.{isIndividual}
@@ -11,7 +11,7 @@ use Rattle.registration.specs.Registration.{registering, isWaiting, isRegistere
 use Rattle.processes.specs.Parts.{fresh, withRegistration, still}
 use Rattle.processes.specs.Sound.{soundOf as processesSound}
 use Rattle.ticking.specs.Tick.{localDeregister, tickOf as processesTick}
-use Rattle.floorbox.specs.Answer.{bare, refused, accepted, given}
+use Rattle.floorbox.specs.Answer.{bare, refused, accepted}
 use Rattle.floorbox.specs.declared.FloorBox.{FloorBox}
 use Rattle.floorbox.specs.declared.Answer.{Answer}
 
@@ -34,7 +34,7 @@ registerOf b =
     (Unsound unless soundOf b
     ∷ State unless isWaiting (p .registration .state)
     ∷ [])
-    b (accepted b (pos 0) (still (withRegistration p (registering (p .registration)))))
+    (refused b) (accepted b (pos 0) (still (withRegistration p (registering (p .registration)))))
 
 -- deregister in REGISTERED goes to LOCAL DEREGISTER; else 7
 unfoldable pub deregisterOf : FloorBox → Answer
@@ -44,7 +44,7 @@ deregisterOf b =
     (Unsound unless soundOf b
     ∷ State unless isRegistered (p .registration .state)
     ∷ [])
-    b (accepted b (pos 0) (localDeregister p))
+    (refused b) (accepted b (pos 0) (localDeregister p))
 
 unfoldable pub tickOf : FloorBox → Answer
 tickOf b =
@@ -53,4 +53,4 @@ tickOf b =
     (Unsound unless soundOf b
     ∷ Window unless s .ok
     ∷ [])
-    b (accepted b (pos 0) s)
+    (refused b) (accepted b (pos 0) s)

@@ -5,7 +5,7 @@ use mathlib.Core.Bool.{Bool, true, false, cond, _&&_, _||_}
 use mathlib.Core.List.{[], _∷_}
 use lib.Dec.{eqb}
 use Rattle.clock.specs.Counts.{driftOf}
-use Rattle.frame.specs.Card.{_unless_}
+use Rattle.frame.specs.Card.{_unless_, given}
 use Rattle.frame.specs.declared.Address.{Address}
 use Rattle.frame.specs.declared.Body.{Body}
 use Rattle.frame.specs.declared.Body.the-variants.{Gate, Discovery, Report, RegisterReq, Register, RegisterAck}
@@ -14,7 +14,7 @@ use Rattle.frame.specs.declared.Reply.the-variants.{Range, Direction, Party, Un
 use Rattle.range.specs.Fits.{fitsMessage}
 use Rattle.processes.specs.Parts.{withCount}
 use Rattle.hearing.specs.Hear.{hearOf as processesHear}
-use Rattle.floorbox.specs.Answer.{accepted, given}
+use Rattle.floorbox.specs.Answer.{refused, accepted}
 use Rattle.floorbox.specs.Box.{soundOf}
 use Rattle.floorbox.specs.declared.FloorBox.{FloorBox}
 use Rattle.floorbox.specs.declared.Answer.{Answer}
@@ -56,4 +56,4 @@ hearOf b m random =
     ∷ Party unless isFor b (m .destination) (m .body)
     ∷ Range unless fitsMessage m
     ∷ [])
-    b (heardOf b m random)
+    (refused b) (heardOf b m random)

@@ -1,4 +1,5 @@
 pub mod Card
+pub mod Tests
 pub mod Layout
 pub mod Range
 pub mod Reading

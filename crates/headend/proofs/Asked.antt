@@ -14,6 +14,7 @@ use Rattle.laws.specs.Cases.{decided}
 use Rattle.clock.specs.declared.Count.{Count}
 use Rattle.clock.specs.declared.Quanta.{Quanta}
 use Rattle.frame.specs.Layout.{encode}
+use Rattle.frame.specs.Tests.{Passed}
 use Rattle.frame.specs.declared.Address.{Address}
 use Rattle.frame.specs.declared.Body.the-variants.{Discovery, Register}
 use Rattle.frame.specs.declared.Message.{Message}
@@ -28,7 +29,7 @@ use Rattle.table.specs.Output.{messageOf}
 use Rattle.requests.specs.Client.{fitsLengths, mayOpen, fitsParty}
 use Rattle.judging.specs.Judge.{lookOf}
 use Rattle.judging.specs.declared.Request.{Request}
-use Rattle.headlaws.specs.Calls.{tests, Passed, known}
+use Rattle.headlaws.specs.Calls.{tests, known}
 use Rattle.headlaws.specs.Does.{from}
 use Rattle.headlaws.specs.Events.{table-parts}
 use Rattle.headlaws.specs.Links.{held-at, holds-at}

@@ -11,6 +11,7 @@ use lib.Dec.{eqb}
 use Rattle.clock.specs.declared.Quanta.{Quanta}
 use Rattle.frame.specs.Layout.{encode}
 use Rattle.frame.specs.Range.{Valid}
+use Rattle.frame.specs.Tests.{Passed}
 use Rattle.frame.specs.declared.Address.{Address}
 use Rattle.frame.specs.declared.Body.{Body}
 use Rattle.frame.specs.declared.Body.the-variants.{Gate, Report, RegisterAck}
@@ -28,7 +29,7 @@ use Rattle.heeding.specs.Hear.{isFromBox, isNewcomer, onLink, inState, isFor, b
 use Rattle.judging.specs.Judge.{lookOf}
 use Rattle.judging.specs.declared.Request.{Request}
 use Rattle.serving.specs.Serve.{serveOf}
-use Rattle.headlaws.specs.Calls.{tests, Passed, known}
+use Rattle.headlaws.specs.Calls.{tests, known}
 use Rattle.headlaws.specs.Does.{from}
 use Rattle.headlaws.specs.Events.{table-parts}
 use Rattle.headlaws.specs.Messages.{report-heard, ack-heard}

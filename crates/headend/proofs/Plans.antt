@@ -10,6 +10,7 @@ use lib.Dec.{eqb}
 use lib.ListN.{length}
 use Rattle.clock.specs.Counts.{roundTrip}
 use Rattle.clock.specs.declared.Quanta.{Quanta}
+use Rattle.frame.specs.Tests.{Passed}
 use Rattle.frame.specs.declared.Address.{Address}
 use Rattle.head.specs.declared.Head.{Head}
 use Rattle.links.specs.Link.{isHeld, isRegistered}
@@ -18,7 +19,7 @@ use Rattle.survey.specs.Facts.{isFew, idleFrom}
 use Rattle.judging.specs.Judge.{lookOf}
 use Rattle.plans.specs.declared.Plan.{Plan}
 use Rattle.judging.specs.declared.Request.{Request}
-use Rattle.headlaws.specs.Calls.{tests, planned, Passed, known}
+use Rattle.headlaws.specs.Calls.{tests, planned, known}
 use Rattle.headlaws.specs.Heard.{heard-message}
 use Rattle.headlaws.specs.Numbered.{lowest-idle}
 use Rattle.headlaws.specs.Sound.{facts-link, facts-idle}

@@ -7,13 +7,14 @@ use mathlib.Core.List.{List, [], _∷_}
 use borrow.Author.Tests.{le-leb}
 use lib.ListN.{length}
 use Rattle.frame.specs.Card.{Test, _unless_, numberOf, answerOf}
+use Rattle.frame.specs.Tests.{Passed}
 use Rattle.frame.specs.declared.Reply.the-variants.{Done}
 use Rattle.head.specs.Head.{soundOf}
 use Rattle.survey.specs.Facts.{soundTable}
 use Rattle.judging.specs.Judge.{hasRoom}
 use Rattle.judging.specs.declared.Request.{Request}
 use Rattle.serving.specs.Serve.{serveOf}
-use Rattle.headlaws.specs.Calls.{tests, Passed, known, allTests}
+use Rattle.headlaws.specs.Calls.{tests, known, allTests}
 use Rattle.headlaws.specs.Refusals.{call-reply}
 use Rattle.headlaws.specs.Runs.{Run, calls, run-sound}
 use Rattle.headlaws.specs.Sound.{call-length}

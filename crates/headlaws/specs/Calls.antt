@@ -11,7 +11,8 @@ use lib.Dec.{eqb, leb}
 use lib.ListN.{length}
 use Rattle.laws.specs.Cases.{either}
 use Rattle.clock.specs.Counts.{roundTrip}
-use Rattle.frame.specs.Card.{Test, _unless_, numberOf}
+use Rattle.frame.specs.Card.{Test, _unless_, given, numberOf}
+use Rattle.frame.specs.Tests.{Passed, Each, given-either}
 use Rattle.frame.specs.declared.Body.the-variants.{Gate, Discovery, Register}
 use Rattle.frame.specs.declared.RegisterFlag.{RegisterFlag}
 use Rattle.frame.specs.declared.Reply.{Reply}
@@ -31,7 +32,7 @@ use Rattle.table.specs.declared.Event.{Event}
 use Rattle.requests.specs.Client.{fitsLengths, mayOpen, openOf, fitsParty, admitOf, rejectOf, reregisterOf, deregisterOf, gateOf}
 use Rattle.heeding.specs.Hear.{isFromBox, onLink, inState, byParty, heardOf, hearOf}
 use Rattle.judging.specs.Judge.{lookOf, decideOf, isSound, hasRoom, judgeOf}
-use Rattle.plans.specs.Plan.{refused, accepted, sending, given}
+use Rattle.plans.specs.Plan.{refused, accepted, sending}
 use Rattle.plans.specs.declared.Plan.{Plan}
 use Rattle.judging.specs.declared.Request.{Request}
 use Rattle.serving.specs.Serve.{planOf}
@@ -86,7 +87,7 @@ planned (Request.Hear link m) h f =
     heardOf (m .body) h (f .link) link (record { 0 = roundTrip (h .count .0) (m .timestamp .0) })
 planned Request.Tick h f = accepted (tickOf h) Event.Tick
 
-decide-is : (r : Request) (h : Head) (f : Facts) → decideOf r h f ≡ given (tests r h f) h (planned r h f)
+decide-is : (r : Request) (h : Head) (f : Facts) → decideOf r h f ≡ given (tests r h f) (refused h) (planned r h f)
 unfolding openOf admitOf rejectOf reregisterOf deregisterOf gateOf hearOf
 decide-is (Request.Open start length sync window) h f = refl
 decide-is (Request.Admit a pending sync) h f = refl
@@ -96,22 +97,6 @@ decide-is (Request.Deregister link) h f = refl
 decide-is (Request.Gate link asked) h f = refl
 decide-is (Request.Hear link m) h f = refl
 decide-is Request.Tick h f = refl
-
--- every test passed, and what holds of every reply of a list of tests
-abbrev pub Passed : List Test → Type 0
-Passed [] = Unit {0}
-Passed (r unless t ∷ ts) = (t ≡ true) × Passed ts
-
-abbrev Each : (Reply → Type 0) → List Test → Type 0
-Each Q [] = Unit {0}
-Each Q (r unless t ∷ ts) = Q r × Each Q ts
-
--- of any list of tests
-given-either : (Q : Reply → Type 0) (P : Plan → Type 0) (ts : List Test) (h : Head) (p : Plan) → Each Q ts
-    → ((r : Reply) → Q r → P (refused h r)) → (Passed ts → P p) → P (given ts h p)
-given-either Q P [] h p q f g = g tt
-given-either Q P (r unless t ∷ ts) h p q f g =
-    either P t _ _ (λ e. given-either Q P ts h p (q .1) f (λ es. g (e, es))) (λ _. f r (q .0))
 
 -- none of 0, 12 and 13 is given by the tests after the first two
 abbrev Other : Reply → Type 0
@@ -153,13 +138,13 @@ allTests h xs r room =
 
 -- of which the first that is not passed refuses the call
 pub plan-is : (h : Head) (xs : List Link) (r : Request) (room : ℕ)
-    → planOf h xs r room ≡ given (allTests h xs r room) h (planned r h (known xs r))
+    → planOf h xs r room ≡ given (allTests h xs r room) (refused h) (planned r h (known xs r))
 unfolding planOf isSound judgeOf
 plan-is h xs r room =
     let few = hasRoom (length xs) room in
-    ap (λ (t : Bool). given (Unsound unless (soundOf h && t) ∷ Output unless few ∷ []) h (decideOf r h (known xs r)))
+    ap (λ (t : Bool). given (Unsound unless (soundOf h && t) ∷ Output unless few ∷ []) (refused h) (decideOf r h (known xs r)))
     (facts-sound xs (lookOf r))
-    ∙ ap (λ (p : Plan). given (Unsound unless (soundOf h && soundTable xs) ∷ Output unless few ∷ []) h p) (decide-is r h (known xs r))
+    ∙ ap (λ (p : Plan). given (Unsound unless (soundOf h && soundTable xs) ∷ Output unless few ∷ []) (refused h) p) (decide-is r h (known xs r))
 
 -- every call comes out in one of the four ways
 pub outcome : (h : Head) (xs : List Link) (r : Request) (room : ℕ) → Outcome h xs r room (planOf h xs r room)
@@ -170,7 +155,7 @@ outcome h xs r room =
     (λ s.
     either (Outcome h xs r room) (hasRoom (length xs) room) _ _
     (λ k.
-    given-either Other (Outcome h xs r room) (tests r h f) h (planned r h f) (tests-other r h f)
+    given-either Other (Outcome h xs r room) (tests r h f) (refused h) (planned r h f) (tests-other r h f)
     (λ x o. refuses s k x (o .0) (o .1) (o .2) refl) (λ t. accepts s k t refl))
     (λ k. short s k refl))
     (λ s. unsound s refl))

@@ -10,6 +10,7 @@ use native.Mathlib.Omega.{arith}
 use borrow.Author.Tests.{leb-true}
 use lib.Dec.{leb}
 use lib.ListN.{length, drop}
+use Rattle.frame.specs.Tests.{Passed}
 use Rattle.frame.specs.declared.Message.{Message}
 use Rattle.frame.specs.declared.Reply.{Reply}
 use Rattle.head.specs.Head.{soundOf}
@@ -25,7 +26,7 @@ use Rattle.plans.specs.Plan.{refused}
 use Rattle.plans.specs.declared.Plan.{Plan}
 use Rattle.judging.specs.declared.Request.{Request}
 use Rattle.serving.specs.Serve.{senderOf, sentOf, doneOf, planOf, serveOf}
-use Rattle.headlaws.specs.Calls.{tests, planned, Passed, known, Outcome, unsound, short, refuses, accepts, outcome}
+use Rattle.headlaws.specs.Calls.{tests, planned, known, Outcome, unsound, short, refuses, accepts, outcome}
 use Rattle.headlaws.specs.Events.{table-parts}
 use Rattle.headlaws.specs.Frames.{framesOf, AllValid, SenderFits, links-few, nothing-frames, frames-apart, frames-valid, frames-packed}
 use Rattle.headlaws.specs.Heard.{heard-message}

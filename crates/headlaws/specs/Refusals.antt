@@ -8,7 +8,8 @@ use mathlib.Core.List.{List, [], _∷_}
 use mathlib.Core.Logic.{_≢_}
 use native.Mathlib.Omega.{arith}
 use lib.ListN.{length}
-use Rattle.frame.specs.Card.{Test, _unless_, numberOf, answerOf}
+use Rattle.frame.specs.Card.{Test, _unless_, given, numberOf, answerOf}
+use Rattle.frame.specs.Tests.{Passed}
 use Rattle.frame.specs.declared.Reply.{Reply}
 use Rattle.frame.specs.declared.Reply.the-variants.{Done, Output, Unsound}
 use Rattle.head.specs.Head.{soundOf}
@@ -20,12 +21,12 @@ use Rattle.survey.specs.declared.Facts.{Facts}
 use Rattle.table.specs.Output.{output, noteLink, Output as Written}
 use Rattle.table.specs.declared.Event.{Event}
 use Rattle.table.specs.declared.Sender.{Sender}
-use Rattle.plans.specs.Plan.{quiet, refused, given}
+use Rattle.plans.specs.Plan.{quiet, refused}
 use Rattle.plans.specs.declared.Plan.{Plan}
 use Rattle.judging.specs.declared.Request.{Request}
 use Rattle.serving.specs.Serve.{served, senderOf, sentOf, doneOf, planOf, serveOf}
 use Rattle.serving.specs.declared.Answer.{Answer}
-use Rattle.headlaws.specs.Calls.{tests, planned, Passed, known, allTests, plan-is, Outcome, unsound, short, refuses, accepts, outcome}
+use Rattle.headlaws.specs.Calls.{tests, planned, known, allTests, plan-is, Outcome, unsound, short, refuses, accepts, outcome}
 use Rattle.headlaws.specs.Events.{nothing-keeps}
 use Rattle.headlaws.specs.Heard.{heard-message}
 
@@ -53,7 +54,7 @@ planned-done (Request.Hear link m) h f t = heard-message h (f .link) link m (t .
 planned-done Request.Tick h f t = refl
 
 -- of any list of tests
-given-reply : (ts : List Test) (h : Head) (p : Plan) → (Passed ts → p .reply ≡ Done) → given ts h p .reply ≡ answerOf ts
+given-reply : (ts : List Test) (h : Head) (p : Plan) → (Passed ts → p .reply ≡ Done) → given ts (refused h) p .reply ≡ answerOf ts
 given-reply [] h p d = d tt
 given-reply (x unless true ∷ ts) h p d = given-reply ts h p (λ t. d (refl, t))
 given-reply (x unless false ∷ ts) h p d = refl

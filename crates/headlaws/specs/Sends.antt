@@ -10,6 +10,7 @@ use Rattle.clock.specs.Timers.{ticked}
 use Rattle.clock.specs.declared.Quanta.{Quanta}
 use Rattle.frame.specs.Layout.{listed}
 use Rattle.frame.specs.Range.{GrantsTyped, BodyTyped}
+use Rattle.frame.specs.Tests.{Passed}
 use Rattle.frame.specs.declared.Address.{Address}
 use Rattle.frame.specs.declared.Body.the-variants.{Gate}
 use Rattle.frame.specs.declared.Grants.{Grants}
@@ -34,7 +35,7 @@ use Rattle.table.specs.Events.{portOf, reactOf}
 use Rattle.table.specs.declared.Event.{Event}
 use Rattle.requests.specs.Client.{fitsLengths, fitsParty}
 use Rattle.judging.specs.declared.Request.{Request}
-use Rattle.headlaws.specs.Calls.{tests, planned, Passed}
+use Rattle.headlaws.specs.Calls.{tests, planned}
 use Rattle.headlaws.specs.Heard.{ByMessage, Heeds, heard-message}
 use Rattle.headlaws.specs.Links.{individual-fits, address-fits}
 use Rattle.headlaws.specs.Sound.{party-parts}

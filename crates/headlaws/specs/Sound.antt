@@ -9,6 +9,7 @@ use borrow.Author.Tests.{not-true}
 use lib.ListN.{length}
 use Rattle.clock.specs.Counts.{nextOf}
 use Rattle.clock.specs.declared.Quanta.{Quanta}
+use Rattle.frame.specs.Tests.{Passed}
 use Rattle.frame.specs.declared.Address.{Address}
 use Rattle.range.specs.Fits.{isIndividual, fitsLength}
 use Rattle.head.specs.Head.{soundOf}
@@ -26,7 +27,7 @@ use Rattle.plans.specs.declared.Plan.{Plan}
 use Rattle.judging.specs.declared.Request.{Request}
 use Rattle.serving.specs.Fresh.{freshOf}
 use Rattle.serving.specs.Serve.{doneOf, planOf, serveOf}
-use Rattle.headlaws.specs.Calls.{tests, planned, Passed, known, Outcome, unsound, short, refuses, accepts, outcome}
+use Rattle.headlaws.specs.Calls.{tests, planned, known, Outcome, unsound, short, refuses, accepts, outcome}
 use Rattle.headlaws.specs.Events.{Fits, table-parts, nothing-keeps, driven-length, driven-sound}
 use Rattle.headlaws.specs.Fresh.{fresh-done, begun-sound, cleared-table}
 use Rattle.headlaws.specs.Heard.{Heeds, message-allowed, heard-message}

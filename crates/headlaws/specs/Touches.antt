@@ -10,6 +10,7 @@ use lib.Dec.{eqb}
 use lib.ListN.{length}
 use Rattle.laws.specs.Cases.{either}
 use Rattle.clock.specs.declared.Quanta.{Quanta}
+use Rattle.frame.specs.Tests.{Passed}
 use Rattle.frame.specs.declared.Address.{Address}
 use Rattle.frame.specs.declared.Reply.the-variants.{Output, Unsound}
 use Rattle.head.specs.declared.Head.{Head}
@@ -25,7 +26,7 @@ use Rattle.table.specs.declared.Sender.{Sender}
 use Rattle.plans.specs.declared.Plan.{Plan}
 use Rattle.judging.specs.declared.Request.{Request}
 use Rattle.serving.specs.Serve.{senderOf, doneOf, planOf, serveOf}
-use Rattle.headlaws.specs.Calls.{tests, planned, Passed, known, Outcome, unsound, short, refuses, accepts, outcome}
+use Rattle.headlaws.specs.Calls.{tests, planned, known, Outcome, unsound, short, refuses, accepts, outcome}
 use Rattle.headlaws.specs.Events.{nothing-keeps}
 use Rattle.headlaws.specs.Frames.{linkFrames, framesOf, nothing-frames, frames-apart}
 use Rattle.headlaws.specs.Handed.{planned-apart, refused-frames, callFrames}

@@ -6,7 +6,7 @@ use mathlib.Core.List.{[], _∷_}
 use lib.Dec.{eqb}
 use Rattle.clock.specs.Counts.{roundTrip}
 use Rattle.clock.specs.declared.Quanta.{Quanta}
-use Rattle.frame.specs.Card.{_unless_}
+use Rattle.frame.specs.Card.{_unless_, given}
 use Rattle.frame.specs.declared.Address.{Address}
 use Rattle.frame.specs.declared.Body.{Body}
 use Rattle.frame.specs.declared.Body.the-variants.{Gate, Discovery, Report, RegisterReq, Register, RegisterAck}
@@ -22,7 +22,7 @@ use Rattle.links.specs.Link.{isHeld, isRegistered}
 use Rattle.links.specs.declared.Change.{Change}
 use Rattle.links.specs.declared.Link.{Link}
 use Rattle.table.specs.declared.Event.{Event}
-use Rattle.plans.specs.Plan.{accepted, telling, given}
+use Rattle.plans.specs.Plan.{refused, accepted, telling}
 use Rattle.plans.specs.declared.Kind.{Kind}
 use Rattle.plans.specs.declared.Plan.{Plan}
 
@@ -105,4 +105,4 @@ hearOf h l link m =
     ∷ Party unless byParty h l m
     ∷ Range unless fitsMessage m
     ∷ [])
-    h (heardOf (m .body) h l link (record { 0 = roundTrip (h .count .0) (m .timestamp .0) }))
+    (refused h) (heardOf (m .body) h l link (record { 0 = roundTrip (h .count .0) (m .timestamp .0) }))

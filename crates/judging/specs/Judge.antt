@@ -4,8 +4,7 @@ use Prim.Native.Nat.{ℕ, _*_}
 use mathlib.Core.Bool.{Bool, _&&_}
 use mathlib.Core.List.{[], _∷_}
 use lib.Dec.{leb}
-use Rattle.frame.specs.Card.{_unless_}
-use Rattle.frame.specs.declared.Address.{Address}
+use Rattle.frame.specs.Card.{_unless_, given}
 use Rattle.frame.specs.declared.Reply.the-variants.{Output, Unsound}
 use Rattle.head.specs.Head.{tickOf, soundOf}
 use Rattle.head.specs.declared.Head.{Head}
@@ -14,7 +13,7 @@ use Rattle.survey.specs.declared.Look.{Look}
 use Rattle.table.specs.declared.Event.the-variants.{Tick}
 use Rattle.requests.specs.Client.{openOf, admitOf, rejectOf, reregisterOf, deregisterOf, gateOf}
 use Rattle.heeding.specs.Hear.{hearOf}
-use Rattle.plans.specs.Plan.{accepted, given}
+use Rattle.plans.specs.Plan.{refused, accepted}
 use Rattle.plans.specs.declared.Plan.{Plan}
 use Rattle.judging.specs.declared.Request.{Request}
 
@@ -58,4 +57,4 @@ judgeOf h f links octets r =
     (Unsound unless isSound h f
     ∷ Output unless hasRoom links octets
     ∷ [])
-    h (decideOf r h f)
+    (refused h) (decideOf r h f)

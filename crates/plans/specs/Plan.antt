@@ -1,10 +1,7 @@
--- What a call of the head is going to do: a refusal changes nothing; of a list of tests the first that is not passed gives the number.
+-- What a call of the head is going to do: a refusal changes nothing.
 -- Assumes nothing.
 use Prim.Native.Nat.{ℕ}
-use mathlib.Core.Bool.{cond}
-use mathlib.Core.List.{List, [], _∷_}
 use Rattle.clock.specs.declared.Quanta.{Quanta}
-use Rattle.frame.specs.Card.{Test, _unless_}
 use Rattle.frame.specs.declared.Address.{Address}
 use Rattle.frame.specs.declared.Body.{Body}
 use Rattle.frame.specs.declared.Reply.{Reply}
@@ -34,8 +31,3 @@ sending h a body = record { reply = Done; head = h; event = Event.Nothing; lead 
 abbrev pub telling : Head → Event → Kind → ℕ → Quanta → Plan
 telling h e kind link trip =
     record { reply = Done; head = h; event = e; lead = Sent.Nothing; notice = record { kind = kind; link = link; trip = trip } }
-
--- of a list of tests the first that is not passed gives the answer
-abbrev pub given : List Test → Head → Plan → Plan
-given [] h p = p
-given (r unless t ∷ ts) h p = cond t (given ts h p) (refused h r)

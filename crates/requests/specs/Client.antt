@@ -7,7 +7,7 @@ use lib.Dec.{eqb, leb}
 use Rattle.clock.specs.Numbers.{startInRange, serves}
 use Rattle.clock.specs.declared.Count.{Count}
 use Rattle.clock.specs.declared.Quanta.{Quanta}
-use Rattle.frame.specs.Card.{_unless_}
+use Rattle.frame.specs.Card.{_unless_, given}
 use Rattle.frame.specs.declared.Address.{Address}
 use Rattle.frame.specs.declared.Body.the-variants.{Discovery, Register}
 use Rattle.frame.specs.declared.RegisterFlag.{RegisterFlag}
@@ -24,7 +24,7 @@ use Rattle.links.specs.declared.Change.{Change}
 use Rattle.links.specs.declared.Link.{Link}
 use Rattle.survey.specs.declared.Facts.{Facts}
 use Rattle.table.specs.declared.Event.the-variants.{At}
-use Rattle.plans.specs.Plan.{accepted, sending, given}
+use Rattle.plans.specs.Plan.{refused, accepted, sending}
 use Rattle.plans.specs.declared.Plan.{Plan}
 
 -- a length or sync time has sixteen bits, else 4
@@ -43,7 +43,7 @@ openOf h start length sync window =
     ∷ Range unless fitsLengths length sync
     ∷ Grant unless mayOpen (h .count) start length sync window
     ∷ [])
-    h
+    (refused h)
     (sending (withWindow h (opened (h .count) start window)) (record { 0 = 0x0180C2000001 })
     (Discovery (record { start = start; length = length; force = false }) sync))
 
@@ -59,12 +59,12 @@ admitOf h f a pending sync =
     ∷ Held unless not (f .held)
     ∷ Full unless not (eqb (f .idle) 0)
     ∷ [])
-    h (accepted h (At (f .idle) (Change.Admit a pending sync)))
+    (refused h) (accepted h (At (f .idle) (Change.Admit a pending sync)))
 
 -- reject: REGISTER nack, port 0; no state changes
 unfoldable pub rejectOf : Head → Address → ℕ → Quanta → Plan
 rejectOf h a pending sync =
-    given (Range unless fitsParty a sync ∷ []) h (sending h a (Register 0 RegisterFlag.Nack sync pending))
+    given (Range unless fitsParty a sync ∷ []) (refused h) (sending h a (Register 0 RegisterFlag.Nack sync pending))
 
 -- reregister and deregister: registered links only, a waiting one is 7
 unfoldable pub reregisterOf : Head → Link → ℕ → Quanta → Plan
@@ -74,7 +74,7 @@ reregisterOf h l link sync =
     ∷ State unless isRegistered (l .state)
     ∷ Range unless fitsLength sync
     ∷ [])
-    h (accepted h (At link (Change.Reregister sync)))
+    (refused h) (accepted h (At link (Change.Reregister sync)))
 
 unfoldable pub deregisterOf : Head → Link → ℕ → Plan
 deregisterOf h l link =
@@ -82,7 +82,7 @@ deregisterOf h l link =
     (Reply.Link unless isHeld (l .state)
     ∷ State unless isRegistered (l .state)
     ∷ [])
-    h (accepted h (At link Change.Deregister))
+    (refused h) (accepted h (At link Change.Deregister))
 
 -- gate: waiting or registered; more than four grants is 9; starts and lengths aren't judged, but for a length's sixteen bits
 unfoldable pub gateOf : Head → Link → ℕ → Asked → Plan
@@ -92,4 +92,4 @@ gateOf h l link asked =
     ∷ Range unless fitsAsked asked
     ∷ Grant unless leb (asked .number) 4
     ∷ [])
-    h (accepted h (At link (Change.Gate (grantsOf asked))))
+    (refused h) (accepted h (At link (Change.Gate (grantsOf asked))))
