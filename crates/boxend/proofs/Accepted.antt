@@ -2,13 +2,14 @@
 -- Assumes nothing.
 use Prim.Native.Nat.{ℕ}
 use mathlib.Core.Path.{_≡_}
-use mathlib.Core.Bool.{true}
+use mathlib.Core.Bool.{true, false}
 use Rattle.frame.specs.Range.{Valid}
+use Rattle.frame.specs.Ways.{goesToHead}
 use Rattle.frame.specs.declared.Message.{Message}
 use Rattle.range.specs.Fits.{of-valid}
 use Rattle.floorbox.specs.Answer.{accepted}
 use Rattle.floorbox.specs.Box.{tickOf}
-use Rattle.floorbox.specs.Hear.{isFromHead, isFor, heardOf, hearOf}
+use Rattle.floorbox.specs.Hear.{isFor, heardOf, hearOf}
 use Rattle.floorbox.specs.declared.FloorBox.{FloorBox}
 use Rattle.boxlaws.specs.Calls.{hear, tick, answer, step, drift}
 use Rattle.boxlaws.specs.Runs.{Holds, holds-sound}
@@ -19,7 +20,7 @@ module _ (b : FloorBox) (h : Holds b) where
   unfolding tickOf
   tick-accepted = rw (holds-sound h, tick-ok (b .processes) (h .processes))
 
-  pub hear-accepted : (m : Message) (random : ℕ) → Valid m → isFromHead (m .body) ≡ true → isFor b (m .destination) (m .body) ≡ true
+  pub hear-accepted : (m : Message) (random : ℕ) → Valid m → goesToHead (m .body) ≡ false → isFor b (m .destination) (m .body) ≡ true
       → answer (hear m random) b ≡ accepted b (drift (hear m random) b) (step (hear m random) b)
   unfolding heardOf hearOf
   hear-accepted m random v f i = rw (holds-sound h, f, i, of-valid m v)

@@ -2,7 +2,7 @@
 -- Assumes nothing.
 use Prim.Native.Nat.{ℕ}
 use mathlib.Core.Path.{_≡_, refl, ap}
-use mathlib.Core.Bool.{true, false}
+use mathlib.Core.Bool.{true, false, not}
 use mathlib.Core.List.{List, [], _∷_}
 use mathlib.Core.Logic.{_≢_}
 use native.Mathlib.Omega.{arith}
@@ -12,6 +12,7 @@ use Rattle.laws.specs.Cases.{either}
 use Rattle.clock.specs.Counts.{driftOf}
 use Rattle.frame.specs.Card.{Test, _unless_, given, numberOf}
 use Rattle.frame.specs.Tests.{Passed, Each, given-either}
+use Rattle.frame.specs.Ways.{goesToHead}
 use Rattle.frame.specs.declared.Message.{Message}
 use Rattle.frame.specs.declared.Reply.{Reply}
 use Rattle.frame.specs.declared.Reply.the-variants.{Done, Range, Direction, State, Party, Unsound, Window}
@@ -24,7 +25,7 @@ use Rattle.ticking.specs.Tick.{localDeregister, tickOf as processesTick}
 use Rattle.hearing.specs.Hear.{hearOf as processesHear}
 use Rattle.floorbox.specs.Answer.{refused, accepted}
 use Rattle.floorbox.specs.Box.{soundOf, registerOf, deregisterOf, tickOf}
-use Rattle.floorbox.specs.Hear.{isFromHead, isFor, heardOf, hearOf}
+use Rattle.floorbox.specs.Hear.{isFor, heardOf, hearOf}
 use Rattle.floorbox.specs.declared.Answer.{Answer}
 use Rattle.floorbox.specs.declared.FloorBox.{FloorBox}
 
@@ -46,7 +47,7 @@ abbrev pub tests : Call → FloorBox → List Test
 tests register b = State unless isWaiting (b .processes .registration .state) ∷ []
 tests deregister b = State unless isRegistered (b .processes .registration .state) ∷ []
 tests (hear m random) b =
-    Direction unless isFromHead (m .body)
+    Direction unless not (goesToHead (m .body))
     ∷ Party unless isFor b (m .destination) (m .body)
     ∷ Range unless fitsMessage m
     ∷ []

@@ -1,11 +1,12 @@
 -- Document 01, "Steps of the box": what a message is answered with; 13, 5, 8, 4 in that order.
 -- Assumes nothing.
 use Prim.Native.Nat.{ℕ}
-use mathlib.Core.Bool.{Bool, true, false, cond, _&&_, _||_}
+use mathlib.Core.Bool.{Bool, true, false, not, _&&_, _||_}
 use mathlib.Core.List.{[], _∷_}
 use lib.Dec.{eqb}
 use Rattle.clock.specs.Counts.{driftOf}
 use Rattle.frame.specs.Card.{_unless_, given}
+use Rattle.frame.specs.Ways.{goesToHead}
 use Rattle.frame.specs.declared.Address.{Address}
 use Rattle.frame.specs.declared.Body.{Body}
 use Rattle.frame.specs.declared.Body.the-variants.{Gate, Discovery, Report, RegisterReq, Register, RegisterAck}
@@ -18,15 +19,6 @@ use Rattle.floorbox.specs.Answer.{refused, accepted}
 use Rattle.floorbox.specs.Box.{soundOf}
 use Rattle.floorbox.specs.declared.FloorBox.{FloorBox}
 use Rattle.floorbox.specs.declared.Answer.{Answer}
-
--- REGISTER_REQ, REGISTER_ACK and REPORT are 5
-abbrev pub isFromHead : Body → Bool
-isFromHead (Gate grants) = true
-isFromHead (Discovery grant sync) = true
-isFromHead (Register port flag sync pending) = true
-isFromHead Report = false
-isFromHead (RegisterReq flag pending) = false
-isFromHead (RegisterAck flag port sync) = false
 
 abbrev pub isDiscovery : Body → Bool
 isDiscovery (Gate grants) = false
@@ -52,7 +44,7 @@ unfoldable pub hearOf : FloorBox → Message → ℕ → Answer
 hearOf b m random =
     given
     (Unsound unless soundOf b
-    ∷ Direction unless isFromHead (m .body)
+    ∷ Direction unless not (goesToHead (m .body))
     ∷ Party unless isFor b (m .destination) (m .body)
     ∷ Range unless fitsMessage m
     ∷ [])

@@ -3,7 +3,7 @@ ghost use mathlib.Core.Path.{_≡_};
 ghost use Rattle.floorbox.specs.Answer.{bare, refused, messageOf, framed, accepted};
 ghost use Rattle.writer.specs.Write.{writeOf};
 ghost use Rattle.floorbox.specs.Box.{soundOf, freshOf, registerOf, deregisterOf, tickOf};
-ghost use Rattle.floorbox.specs.Hear.{isFromHead, isDiscovery, isFor, heardOf, hearOf};
+ghost use Rattle.floorbox.specs.Hear.{isDiscovery, isFor, heardOf, hearOf};
 ghost use Rattle.floorbox.specs.Send.{remaining, fitsIn, sendOf};
 use clock::Count;
 use frame::Address;
@@ -168,7 +168,7 @@ impl FloorBox {
         if !self.sound() {
             return self.refused(Reply::Unsound);
         }
-        if !is_from_head(body) {
+        if body.goes_to_head() {
             return self.refused(Reply::Direction);
         }
         if !self.is_for(destination, body) {
@@ -247,32 +247,6 @@ impl FloorBox {
             return data;
         }
         &control[..0]
-    }
-}
-
-// What the head sends.
-fn is_from_head(body: Body) -> bool
-    ensures { λ r. ⌜ r ≡ isFromHead body ⌝ }
-{
-    match body {
-        Body::Gate(_) => true,
-        Body::Discovery { grant: _, sync: _ } => true,
-        Body::Report => false,
-        Body::RegisterReq {
-            flag: _,
-            pending: _,
-        } => false,
-        Body::Register {
-            port: _,
-            flag: _,
-            sync: _,
-            pending: _,
-        } => true,
-        Body::RegisterAck {
-            flag: _,
-            port: _,
-            sync: _,
-        } => false,
     }
 }
 

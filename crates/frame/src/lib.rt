@@ -1,6 +1,7 @@
 // The messages that the five control frames carry, and the numbers that a call is answered with.
 ghost use mathlib.Core.Path.{_≡_};
 ghost use Rattle.frame.specs.Card.{numberOf};
+ghost use Rattle.frame.specs.Ways.{goesToHead};
 ghost use Rattle.frame.specs.Layout.{registerReqFlag, registerFlag, registerAckFlag};
 use clock::Count;
 use clock::Quanta;
@@ -124,6 +125,32 @@ impl Body {
     pub const REGISTER: u64 = 5;
 
     pub const REGISTER_ACK: u64 = 6;
+
+    // A message goes from a box to the head, or from the head to a box.
+    pub fn goes_to_head(self) -> bool
+        ensures { λ r. ⌜ r ≡ goesToHead self ⌝ }
+    {
+        match self {
+            Body::Gate(_) => false,
+            Body::Discovery { grant: _, sync: _ } => false,
+            Body::Report => true,
+            Body::RegisterReq {
+                flag: _,
+                pending: _,
+            } => true,
+            Body::Register {
+                port: _,
+                flag: _,
+                sync: _,
+                pending: _,
+            } => false,
+            Body::RegisterAck {
+                flag: _,
+                port: _,
+                sync: _,
+            } => true,
+        }
+    }
 }
 
 pub struct Message {

@@ -12,6 +12,7 @@ use Rattle.clock.specs.declared.Quanta.{Quanta}
 use Rattle.frame.specs.Layout.{encode}
 use Rattle.frame.specs.Range.{Valid}
 use Rattle.frame.specs.Tests.{Passed}
+use Rattle.frame.specs.Ways.{goesToHead}
 use Rattle.frame.specs.declared.Address.{Address}
 use Rattle.frame.specs.declared.Body.{Body}
 use Rattle.frame.specs.declared.Body.the-variants.{Gate, Report, RegisterAck}
@@ -25,7 +26,7 @@ use Rattle.links.specs.Link.{isHeld, isRegistered}
 use Rattle.links.specs.declared.Link.{Link}
 use Rattle.survey.specs.declared.Facts.{Facts}
 use Rattle.table.specs.Output.{messageOf}
-use Rattle.heeding.specs.Hear.{isFromBox, isNewcomer, onLink, inState, isFor, byParty}
+use Rattle.heeding.specs.Hear.{isNewcomer, onLink, inState, isFor, byParty}
 use Rattle.judging.specs.Judge.{lookOf}
 use Rattle.judging.specs.declared.Request.{Request}
 use Rattle.serving.specs.Serve.{serveOf}
@@ -50,13 +51,13 @@ group-for h = or-second (eqb 0x0180C2000001 (h .address .0)) true refl
 
 -- a message to the head or to 01-80-C2-00-00-01 from the link's own address, of a kind that comes on a link
 message-passes : (h : Head) (f : Facts) (link : ℕ) (m : Message) (body : Body) → m .body ≡ body
-    → isFromBox body ≡ true → isNewcomer body ≡ false → isHeld (f .link .state) ≡ true
+    → goesToHead body ≡ true → isNewcomer body ≡ false → isHeld (f .link .state) ≡ true
     → m .source ≡ f .link .address → isFor h (m .destination) ≡ true → Valid m
     → Passed (tests (Request.Hear link m) h f)
 unfolding onLink inState byParty
 message-passes h f link m body e b n i a d v =
     let same = eq-eqb (m .source .0) (f .link .address .0) (ap (λ (x : Address). x .0) a) in (
-      ap isFromBox e ∙ b,
+      ap goesToHead e ∙ b,
       (rw (e, n) i, (rw (e, n), (rw (e, n, d, same), (of-valid m v, tt)))),
     )
 
@@ -69,7 +70,7 @@ module _ {out : List ℕ} {s : HeadState} (y : Ready out s) (A : Address) (n : �
   abbrev Restarted : Answer HeadState (List ℕ) → Type 0
   Restarted x = Taken out x × RegisteredFor A 62_500_000 (linkAt (x .next) n)
 
-  box-done : (body : Body) → m .body ≡ body → isFromBox body ≡ true → isNewcomer body ≡ false → HeldLink A (linkAt s n)
+  box-done : (body : Body) → m .body ≡ body → goesToHead body ≡ true → isNewcomer body ≡ false → HeldLink A (linkAt s n)
       → serveOf (s .head) (s .table) r out .answer .reply ≡ Done
   box-done body e b w h =
       let q = facts-link (s .table) (lookOf r) (table-parts (s .table) (run-sound (y .ok) .table) .0) in

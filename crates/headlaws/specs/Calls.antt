@@ -13,6 +13,7 @@ use Rattle.laws.specs.Cases.{either}
 use Rattle.clock.specs.Counts.{roundTrip}
 use Rattle.frame.specs.Card.{Test, _unless_, given, numberOf}
 use Rattle.frame.specs.Tests.{Passed, Each, given-either}
+use Rattle.frame.specs.Ways.{goesToHead}
 use Rattle.frame.specs.declared.Body.the-variants.{Gate, Discovery, Register}
 use Rattle.frame.specs.declared.RegisterFlag.{RegisterFlag}
 use Rattle.frame.specs.declared.Reply.{Reply}
@@ -30,7 +31,7 @@ use Rattle.survey.specs.declared.Facts.{Facts}
 use Rattle.survey.specs.declared.Look.{Look}
 use Rattle.table.specs.declared.Event.{Event}
 use Rattle.requests.specs.Client.{fitsLengths, mayOpen, openOf, fitsParty, admitOf, rejectOf, reregisterOf, deregisterOf, gateOf}
-use Rattle.heeding.specs.Hear.{isFromBox, onLink, inState, byParty, heardOf, hearOf}
+use Rattle.heeding.specs.Hear.{onLink, inState, byParty, heardOf, hearOf}
 use Rattle.judging.specs.Judge.{lookOf, decideOf, isSound, hasRoom, judgeOf}
 use Rattle.plans.specs.Plan.{refused, accepted, sending}
 use Rattle.plans.specs.declared.Plan.{Plan}
@@ -65,7 +66,7 @@ tests (Request.Gate link asked) h f =
     ∷ Grant unless leb (asked .number) 4
     ∷ []
 tests (Request.Hear link m) h f =
-    Direction unless isFromBox (m .body)
+    Direction unless goesToHead (m .body)
     ∷ Reply.Link unless onLink (m .body) (f .link) link
     ∷ State unless inState h (m .body)
     ∷ Party unless byParty h (f .link) m

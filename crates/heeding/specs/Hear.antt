@@ -7,6 +7,7 @@ use lib.Dec.{eqb}
 use Rattle.clock.specs.Counts.{roundTrip}
 use Rattle.clock.specs.declared.Quanta.{Quanta}
 use Rattle.frame.specs.Card.{_unless_, given}
+use Rattle.frame.specs.Ways.{goesToHead}
 use Rattle.frame.specs.declared.Address.{Address}
 use Rattle.frame.specs.declared.Body.{Body}
 use Rattle.frame.specs.declared.Body.the-variants.{Gate, Discovery, Report, RegisterReq, Register, RegisterAck}
@@ -25,15 +26,6 @@ use Rattle.table.specs.declared.Event.{Event}
 use Rattle.plans.specs.Plan.{refused, accepted, telling}
 use Rattle.plans.specs.declared.Kind.{Kind}
 use Rattle.plans.specs.declared.Plan.{Plan}
-
--- GATE and REGISTER are 5
-abbrev pub isFromBox : Body → Bool
-isFromBox (Gate grants) = false
-isFromBox (Discovery grant sync) = false
-isFromBox (Register port flag sync pending) = false
-isFromBox Report = true
-isFromBox (RegisterReq flag pending) = true
-isFromBox (RegisterAck flag port sync) = true
 
 abbrev pub asksToRegister : RegisterReqFlag → Bool
 asksToRegister RegisterReqFlag.Register = true
@@ -99,7 +91,7 @@ heardOf (Register port flag sync pending) h l link trip = noStep h
 unfoldable pub hearOf : Head → Link → ℕ → Message → Plan
 hearOf h l link m =
     given
-    (Direction unless isFromBox (m .body)
+    (Direction unless goesToHead (m .body)
     ∷ Reply.Link unless onLink (m .body) l link
     ∷ State unless inState h (m .body)
     ∷ Party unless byParty h l m

@@ -1,6 +1,6 @@
 // What the head makes of a message: the tests, in their order, and what is to be done.
 ghost use mathlib.Core.Path.{_≡_};
-ghost use Rattle.heeding.specs.Hear.{isFromBox, asksToRegister, isNewcomer, isFor, onLink, inState, byParty, onRegistered, confirmed, requested, heardOf, hearOf};
+ghost use Rattle.heeding.specs.Hear.{asksToRegister, isNewcomer, isFor, onLink, inState, byParty, onRegistered, confirmed, requested, heardOf, hearOf};
 use clock::Quanta;
 use frame::Address;
 use frame::Body;
@@ -14,32 +14,6 @@ use links::Link;
 use plans::Kind;
 use plans::Plan;
 use table::Event;
-
-// What a box sends.
-fn is_from_box(body: Body) -> bool
-    ensures { λ r. ⌜ r ≡ isFromBox body ⌝ }
-{
-    match body {
-        Body::Gate(_) => false,
-        Body::Discovery { grant: _, sync: _ } => false,
-        Body::Report => true,
-        Body::RegisterReq {
-            flag: _,
-            pending: _,
-        } => true,
-        Body::Register {
-            port: _,
-            flag: _,
-            sync: _,
-            pending: _,
-        } => false,
-        Body::RegisterAck {
-            flag: _,
-            port: _,
-            sync: _,
-        } => true,
-    }
-}
 
 fn asks_to_register(flag: RegisterReqFlag) -> bool
     ensures { λ r. ⌜ r ≡ asksToRegister flag ⌝ }
@@ -181,7 +155,7 @@ pub fn hear(head: Head, l: Link, link: usize, message: Message) -> Plan
     let now = head.count;
     let timestamp = message.timestamp;
     let body = message.body;
-    if !is_from_box(body) {
+    if !body.goes_to_head() {
         return Plan::refused(head, Reply::Direction);
     }
     if !on_link(body, l, link) {

@@ -6,8 +6,8 @@ use Rattle.heeding.specs.Hear.{hearOf}
 use Rattle.heeding.proofs.hear.Statement.{statement}
 use Rattle.heeding.proofs.hear.Tie as tie
 
-is-from-box-requires : tie.Need-is-from-box-requires
-is-from-box-requires c κs = search needs
+goes-to-head-requires : tie.Need-goes-to-head-requires
+goes-to-head-requires c κs = search needs
 
 refused-requires : tie.Need-refused-requires
 refused-requires c κs = search needs
@@ -17,8 +17,8 @@ unfolding hearOf
 returns c =
     rw (
       c .refused .ensures,
-      ← c .before .before .is-from-box .ensures,
-      not-true (c .before .before .is-from-box .result) (c .before .if1 .taken),
+      ← c .before .before .goes-to-head .ensures,
+      not-true (c .before .before .goes-to-head .result) (c .before .if1 .taken),
     )
 
 on-link-requires : tie.Need-on-link-requires
@@ -32,8 +32,8 @@ unfolding hearOf
 returns-2 c =
     rw (
       c .refused2 .ensures,
-      ← c .before .before .before .before .is-from-box .ensures,
-      not-false (c .before .before .before .before .is-from-box .result) (c .before .before .before .if1 .left),
+      ← c .before .before .before .before .goes-to-head .ensures,
+      not-false (c .before .before .before .before .goes-to-head .result) (c .before .before .before .if1 .left),
       ← c .before .before .on-link .ensures,
       not-true (c .before .before .on-link .result) (c .before .if2 .taken),
     )
@@ -49,8 +49,8 @@ unfolding hearOf
 returns-3 c =
     rw (
       c .refused3 .ensures,
-      ← c .before .before .before .before .before .before .is-from-box .ensures,
-      not-false (c .before .before .before .before .before .before .is-from-box .result) (c .before .before .before .before .before .if1 .left),
+      ← c .before .before .before .before .before .before .goes-to-head .ensures,
+      not-false (c .before .before .before .before .before .before .goes-to-head .result) (c .before .before .before .before .before .if1 .left),
       ← c .before .before .before .before .on-link .ensures,
       not-false (c .before .before .before .before .on-link .result) (c .before .before .before .if2 .left),
       ← c .before .before .in-state .ensures,
@@ -68,8 +68,8 @@ unfolding hearOf
 returns-4 c =
     rw (
       c .refused4 .ensures,
-      ← c .before .before .before .before .before .before .before .before .is-from-box .ensures,
-      not-false (c .before .before .before .before .before .before .before .before .is-from-box .result) (c .before .before .before .before .before .before .before .if1 .left),
+      ← c .before .before .before .before .before .before .before .before .goes-to-head .ensures,
+      not-false (c .before .before .before .before .before .before .before .before .goes-to-head .result) (c .before .before .before .before .before .before .before .if1 .left),
       ← c .before .before .before .before .before .before .on-link .ensures,
       not-false (c .before .before .before .before .before .before .on-link .result) (c .before .before .before .before .before .if2 .left),
       ← c .before .before .before .before .in-state .ensures,
@@ -89,8 +89,8 @@ unfolding hearOf
 returns-5 c =
     rw (
       c .refused5 .ensures,
-      ← c .before .before .before .before .before .before .before .before .before .before .is-from-box .ensures,
-      not-false (c .before .before .before .before .before .before .before .before .before .before .is-from-box .result) (c .before .before .before .before .before .before .before .before .before .if1 .left),
+      ← c .before .before .before .before .before .before .before .before .before .before .goes-to-head .ensures,
+      not-false (c .before .before .before .before .before .before .before .before .before .before .goes-to-head .result) (c .before .before .before .before .before .before .before .before .before .if1 .left),
       ← c .before .before .before .before .before .before .before .before .on-link .ensures,
       not-false (c .before .before .before .before .before .before .before .before .on-link .result) (c .before .before .before .before .before .before .before .if2 .left),
       ← c .before .before .before .before .before .before .in-state .ensures,
@@ -113,8 +113,8 @@ returns-6 c =
     rw (
       c .heard .ensures,
       c .before .round-trip .ensures,
-      ← c .before .before .before .before .before .before .before .before .before .before .before .is-from-box .ensures,
-      not-false (c .before .before .before .before .before .before .before .before .before .before .before .is-from-box .result) (c .before .before .before .before .before .before .before .before .before .before .if1 .left),
+      ← c .before .before .before .before .before .before .before .before .before .before .before .goes-to-head .ensures,
+      not-false (c .before .before .before .before .before .before .before .before .before .before .before .goes-to-head .result) (c .before .before .before .before .before .before .before .before .before .before .if1 .left),
       ← c .before .before .before .before .before .before .before .before .before .on-link .ensures,
       not-false (c .before .before .before .before .before .before .before .before .before .on-link .result) (c .before .before .before .before .before .before .before .before .if2 .left),
       ← c .before .before .before .before .before .before .before .in-state .ensures,
@@ -129,7 +129,7 @@ pub hear-spec : {M : Type 1} → statement M
 hear-spec =
     tie.close
     (tie.spec
-    is-from-box-requires
+    goes-to-head-requires
     refused-requires
     returns
     on-link-requires

@@ -21,8 +21,8 @@ returns c =
       not-true (c .before .before .sound .result) (c .before .if1 .taken),
     )
 
-is-from-head-requires : tie.Need-is-from-head-requires
-is-from-head-requires c κs = search needs
+goes-to-head-requires : tie.Need-goes-to-head-requires
+goes-to-head-requires c κs = search needs
 
 refused-requires-2 : tie.Need-refused-requires-2
 refused-requires-2 c κs = search needs
@@ -34,8 +34,8 @@ returns-2 c =
       c .refused2 .ensures,
       ← c .before .before .before .before .sound .ensures,
       not-false (c .before .before .before .before .sound .result) (c .before .before .before .if1 .left),
-      ← c .before .before .is-from-head .ensures,
-      not-true (c .before .before .is-from-head .result) (c .before .if2 .taken),
+      ← c .before .before .goes-to-head .ensures,
+      c .before .if2 .taken,
     )
 
 is-for-requires : tie.Need-is-for-requires
@@ -51,8 +51,8 @@ returns-3 c =
       c .refused3 .ensures,
       ← c .before .before .before .before .before .before .sound .ensures,
       not-false (c .before .before .before .before .before .before .sound .result) (c .before .before .before .before .before .if1 .left),
-      ← c .before .before .before .before .is-from-head .ensures,
-      not-false (c .before .before .before .before .is-from-head .result) (c .before .before .before .if2 .left),
+      ← c .before .before .before .before .goes-to-head .ensures,
+      c .before .before .before .if2 .left,
       ← c .before .before .is-for .ensures,
       not-true (c .before .before .is-for .result) (c .before .if3 .taken),
     )
@@ -70,8 +70,8 @@ returns-4 c =
       c .refused4 .ensures,
       ← c .before .before .before .before .before .before .before .before .sound .ensures,
       not-false (c .before .before .before .before .before .before .before .before .sound .result) (c .before .before .before .before .before .before .before .if1 .left),
-      ← c .before .before .before .before .before .before .is-from-head .ensures,
-      not-false (c .before .before .before .before .before .before .is-from-head .result) (c .before .before .before .before .before .if2 .left),
+      ← c .before .before .before .before .before .before .goes-to-head .ensures,
+      c .before .before .before .before .before .if2 .left,
       ← c .before .before .before .before .is-for .ensures,
       not-false (c .before .before .before .before .is-for .result) (c .before .before .before .if3 .left),
       ← c .before .before .message .ensures,
@@ -88,8 +88,8 @@ returns-5 c =
       c .heard .ensures,
       ← c .before .before .before .before .before .before .before .before .sound .ensures,
       not-false (c .before .before .before .before .before .before .before .before .sound .result) (c .before .before .before .before .before .before .before .if1 .left),
-      ← c .before .before .before .before .before .before .is-from-head .ensures,
-      not-false (c .before .before .before .before .before .before .is-from-head .result) (c .before .before .before .before .before .if2 .left),
+      ← c .before .before .before .before .before .before .goes-to-head .ensures,
+      c .before .before .before .before .before .if2 .left,
       ← c .before .before .before .before .is-for .ensures,
       not-false (c .before .before .before .before .is-for .result) (c .before .before .before .if3 .left),
       ← c .before .before .message .ensures,
@@ -103,7 +103,7 @@ hear-spec =
     sound-requires
     refused-requires
     returns
-    is-from-head-requires
+    goes-to-head-requires
     refused-requires-2
     returns-2
     is-for-requires
