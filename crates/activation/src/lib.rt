@@ -70,7 +70,7 @@ pub fn activate(p: Processes) -> Processes
     if light.at_rest() & registration.is_registered() {
         let list = p.list;
         let now = p.count;
-        let choice = list.choose(now, Light::needed(registration.sync));
+        let choice = list.choose(now, Quanta::needed(registration.sync));
         let left = choice.list;
         let chosen = choice.chosen;
         return serve(p.with_list(left), chosen);

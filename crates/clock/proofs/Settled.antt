@@ -2,6 +2,8 @@
 -- Assumes nothing.
 use mathlib.Core.Path.{sym, _∙_}
 use Rattle.laws.specs.Settles.{Settles}
+use Rattle.clock.proofs.Quanta.needed.Kinds as needed-kinds
+use Rattle.clock.proofs.Quanta.needed.Reads as needed-reads
 use Rattle.clock.proofs.Count.next.Kinds as next-kinds
 use Rattle.clock.proofs.Count.next.Reads as next-reads
 use Rattle.clock.proofs.Count.distance.Kinds as distance-kinds
@@ -30,6 +32,9 @@ use Rattle.clock.proofs.Timer.runs.Kinds as runs-kinds
 use Rattle.clock.proofs.Timer.runs.Reads as runs-reads
 use Rattle.clock.proofs.Count.start_in_range.Kinds as start-in-range-kinds
 use Rattle.clock.proofs.Count.start_in_range.Reads as start-in-range
+
+pub needed-settles : Settles 0 needed-kinds.ps needed-kinds.r needed-reads.Post
+needed-settles κs a e x y p q = p ∙ sym q
 
 pub next-settles : Settles 0 next-kinds.ps next-kinds.r next-reads.Post
 next-settles κs a e x y p q = p ∙ sym q

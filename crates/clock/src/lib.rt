@@ -1,7 +1,7 @@
 // The clock: counts, lengths and timers. Document 01, "Counts and lengths" and "Numbers".
 ghost use mathlib.Core.Path.{_≡_};
 ghost use Rattle.clock.specs.Counts.{nextOf, distance, isPast, nearer, reach, driftOf, roundTrip};
-ghost use Rattle.clock.specs.Numbers.{startInRange};
+ghost use Rattle.clock.specs.Numbers.{startInRange, needed};
 ghost use Rattle.clock.specs.Timers.{off, runs, ticked};
 
 // A reading of the 32-bit counter.
@@ -18,6 +18,18 @@ pub enum Reach {
 
 impl Quanta {
     pub const LASER_ON: Quanta = Quanta(32);
+
+    // A frame of 60 octets.
+    pub const FRAME: Quanta = Quanta(42);
+
+    // The length that a grant needs, with this sync time.
+    pub fn needed(sync: Quanta) -> u64
+        ensures { λ r. ⌜ r ≡ needed (sync .0) ⌝ }
+    {
+        let on = Quanta::LASER_ON;
+        let frame = Quanta::FRAME;
+        on.0 as u64 + sync.0 as u64 + frame.0 as u64
+    }
 }
 
 impl Count {

@@ -67,7 +67,7 @@ impl Taking {
 fn random_wait(own: bool, random: u32, length: Quanta, sync: Quanta) -> Quanta
     ensures { λ r. ⌜ r ≡ randomFor own random length sync ⌝ }
 {
-    let need = Light::needed(sync);
+    let need = Quanta::needed(sync);
     let whole = length.0 as u64;
     if own {
         return Quanta(0);
@@ -108,7 +108,7 @@ fn discover(p: Processes, grant: Grant, sync: Quanta, own: bool, random: u32) ->
     let start = grant.start;
     let length = grant.length;
     let acts = registration.is_registering() & light.at_rest();
-    let serves = now.start_in_range(start) & (Light::needed(sync) <= length.0 as u64);
+    let serves = now.start_in_range(start) & (Quanta::needed(sync) <= length.0 as u64);
     if acts & serves {
         let wait = random_wait(own, random, length, sync);
         return p.with_light(call(now.reach(start), wait, sync));

@@ -2,8 +2,6 @@
 -- Assumes nothing.
 use mathlib.Core.Path.{sym, _∙_}
 use Rattle.laws.specs.Settles.{Settles}
-use Rattle.light.proofs.Light.needed.Kinds as needed-kinds
-use Rattle.light.proofs.Light.needed.Reads as needed
 use Rattle.light.proofs.Light.laser_on.Kinds as laser-on-kinds
 use Rattle.light.proofs.Light.laser_on.Reads as laser-on
 use Rattle.light.proofs.Light.randomly.Kinds as randomly-kinds
@@ -14,9 +12,6 @@ use Rattle.light.proofs.Light.sound.Kinds as sound-kinds
 use Rattle.light.proofs.Light.sound.Reads as sound
 use Rattle.light.proofs.Light.tick.Kinds as tick-kinds
 use Rattle.light.proofs.Light.tick.Reads as tick
-
-pub needed-settles : Settles 0 needed-kinds.ps needed-kinds.r needed.Post
-needed-settles κs a e x y p q = p ∙ sym q
 
 pub laser-on-settles : Settles 0 laser-on-kinds.ps laser-on-kinds.r laser-on.Post
 laser-on-settles κs a e x y p q = p ∙ sym q

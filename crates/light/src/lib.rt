@@ -1,6 +1,5 @@
 // The box's transmitter: what it waits for or does, with the timer of that.
 ghost use mathlib.Core.Path.{_≡_};
-ghost use Rattle.clock.specs.Numbers.{needed};
 ghost use Rattle.light.specs.Light.{laserOnFor, restOf, atRest, timerOf, withTimer, randomly};
 ghost use Rattle.light.specs.Sound.{waitFits, served, soundOf};
 ghost use Rattle.light.specs.Tick.{after, tickOf};
@@ -63,25 +62,13 @@ impl Light {
     const LONGEST: u64 = 0xFFFF;
 
     // The laser of the longest discovery grant that serves: all of it but a frame.
-    const LONGEST_WARMING: Quanta = Quanta(0xFFFF - 42);
+    const LONGEST_WARMING: Quanta = Quanta(0xFFFF - Quanta::FRAME.0);
 
     // A normal grant's wait: 2^31 - 1.
     const LONGEST_DUE: Quanta = Quanta(0x7FFFFFFF);
 
     // The longest grant, less the laser-on time.
-    const LONGEST_OPEN: Quanta = Quanta(0xFFFF - 32);
-
-    // A frame of 60 octets.
-    pub const FRAME: Quanta = Quanta(42);
-
-    // The length that a grant needs.
-    pub fn needed(sync: Quanta) -> u64
-        ensures { λ r. ⌜ r ≡ needed (sync .0) ⌝ }
-    {
-        let on = Quanta::LASER_ON;
-        let frame = Light::FRAME;
-        on.0 as u64 + sync.0 as u64 + frame.0 as u64
-    }
+    const LONGEST_OPEN: Quanta = Quanta(0xFFFF - Quanta::LASER_ON.0);
 
     // The timer of a laser that has just gone on.
     pub fn laser_on(sync: Quanta) -> Timer
@@ -226,7 +213,7 @@ impl Light {
                 with_beam(Light::Warming { timer }, Beam::Quiet)
             }
             Light::Warming { timer: _ } => {
-                let frame = Light::FRAME;
+                let frame = Quanta::FRAME;
                 let timer = Timer { left: frame.0 };
                 with_beam(Light::Asking { timer }, Beam::Window)
             }
@@ -252,7 +239,7 @@ impl Light {
     fn wait_fits(n: u32, sync: Quanta) -> bool
         ensures { λ r. ⌜ r ≡ waitFits n sync ⌝ }
     {
-        Light::needed(sync) + n as u64 <= Light::LONGEST
+        Quanta::needed(sync) + n as u64 <= Light::LONGEST
     }
 
     // A grant of sixteen bits, long enough for its sync.
@@ -260,7 +247,7 @@ impl Light {
         ensures { λ r. ⌜ r ≡ served length sync ⌝ }
     {
         let n = length.0 as u64;
-        (Light::needed(sync) <= n) & (n <= Light::LONGEST)
+        (Quanta::needed(sync) <= n) & (n <= Light::LONGEST)
     }
 
     // Every running timer within its longest setting; a grant that is waited for is in the list.
@@ -277,7 +264,7 @@ impl Light {
             Light::Random { timer, sync } => timer.runs(Quanta(65535))
                 & Light::wait_fits(timer.left, sync),
             Light::Warming { timer } => timer.runs(Light::LONGEST_WARMING),
-            Light::Asking { timer } => timer.runs(Light::FRAME),
+            Light::Asking { timer } => timer.runs(Quanta::FRAME),
             Light::Due { timer, entry, sync } => {
                 let length = entry.length;
                 timer.runs(Light::LONGEST_DUE) & list.holds(entry) & Light::served(length, sync)

@@ -27,7 +27,7 @@ fn fits_lengths(length: Quanta, sync: Quanta) -> bool
 fn may_open(now: Count, start: Count, length: Quanta, sync: Quanta, window: Quanta) -> bool
     ensures { λ r. ⌜ r ≡ mayOpen now start length sync window ⌝ }
 {
-    now.start_in_range(start) & (32 + sync.0 as u64 + 42 <= length.0 as u64) & Window::fits(window)
+    now.start_in_range(start) & (Quanta::needed(sync) <= length.0 as u64) & Window::fits(window)
 }
 
 pub fn open(head: Head, start: Count, length: Quanta, sync: Quanta, window: Quanta) -> Plan

@@ -8,33 +8,25 @@ use Rattle.requests.proofs.may_open.Tie as tie
 start-in-range-requires : tie.Need-start-in-range-requires
 start-in-range-requires c κs = search needs
 
+needed-requires : tie.Need-needed-requires
+needed-requires c κs = search needs
+
 cast-result : tie.Need-cast-result
 cast-result c = search needs
-
-add-result : tie.Need-add-result
-add-result c = search needs
-
-add-result-2 : tie.Need-add-result-2
-add-result-2 c = search needs
-
-cast-result-2 : tie.Need-cast-result-2
-cast-result-2 c = search needs
 
 fits-requires : tie.Need-fits-requires
 fits-requires c κs = search needs
 
 returns : tie.Need-returns
 unfolding mayOpen
-returns c = rw (c .fits2 .ensures, c .before .before .before .start-in-range .ensures)
+returns c = rw (c .fits2 .ensures, c .before .before .needed .ensures, c .before .before .before .start-in-range .ensures)
 
 pub may-open-spec : {M : Type 1} → statement M
 may-open-spec =
     tie.close
     (tie.spec
     start-in-range-requires
+    needed-requires
     cast-result
-    add-result
-    add-result-2
-    cast-result-2
     fits-requires
     returns)
