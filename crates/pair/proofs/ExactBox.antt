@@ -3,14 +3,12 @@
 use Prim.Native.Nat.{ℕ, _+_}
 use mathlib.Core.Path.{_≡_}
 use mathlib.Core.Bool.{true}
-use mathlib.Core.List.{List}
 use native.Mathlib.Omega.{arith}
 use Rattle.frame.specs.declared.Address.{Address}
 use Rattle.range.specs.Fits.{isIndividual}
 use Rattle.floorbox.specs.Hear.{hearOf}
-use Rattle.pairlaw.specs.Run.{End, Moment}
 use Rattle.boxend.specs.End.{BoxEnd}
-use Rattle.headend.specs.End.{HeadEnd}
+use Rattle.pair.specs.Ends.{Ends, ends}
 use Rattle.pair.specs.Exact.{BoxDrops}
 use Rattle.pair.proofs.Alike.{floor-alike}
 use Rattle.pair.proofs.Lingers.{Silent, Lingers, Echoes, lingers, echoes}
@@ -19,14 +17,7 @@ use Rattle.pair.proofs.Reach.{Reach, next, shown}
 use Rattle.pair.proofs.Way.{start-fresh}
 
 module _ (A : Address) (i : isIndividual A ≡ true) (D : ℕ) where
-  abbrev HE : End (List ℕ) (List ℕ)
-  HE = HeadEnd A
-
-  abbrev BE : End (List ℕ) (List ℕ)
-  BE = BoxEnd A
-
-  abbrev M : Type 0
-  M = Moment HE BE
+  open Ends (ends A BoxEnd) using (HE, BE, M)
 
   abbrev P : M → Type 0
   P = Silent A i hearOf floor-alike D

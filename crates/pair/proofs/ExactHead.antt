@@ -4,7 +4,6 @@
 use Prim.Native.Nat.{ℕ, suc, _+_}
 use mathlib.Core.Path.{_≡_, refl, sym, ap, subst, _∙_}
 use mathlib.Core.Bool.{true, false≢true}
-use mathlib.Core.List.{List}
 use native.Mathlib.Omega.{arith}
 use Rattle.frame.specs.declared.Address.{Address}
 use Rattle.range.specs.Fits.{isIndividual}
@@ -17,35 +16,29 @@ use Rattle.floorbox.specs.declared.FloorBox.{FloorBox}
 use Rattle.heeding.specs.Hear.{isFor}
 use Rattle.boxlaws.specs.Calls.{deregister as leaving}
 use Rattle.boxlaws.specs.Sound.{sound-test}
-use Rattle.pairlaw.specs.Run.{End, HasRegistered, Moment, Event, head-hears, box-call, both-tick, after, Allowed}
+use Rattle.pairlaw.specs.Run.{HasRegistered, Event, head-hears, box-call, both-tick, after, Allowed}
 use Rattle.boxend.specs.End.{deregister, asked, stateOf, BoxEnd}
 use Rattle.boxend.proofs.Calls.{next-registration}
 use Rattle.boxend.proofs.Exact as boxes
 use Rattle.boxend.proofs.Exact.{tick-done}
 use Rattle.boxend.proofs.Gauge.{Ok}
 use Rattle.boxend.proofs.Laws.{box-laws}
-use Rattle.headend.specs.End.{linkAt, HeadEnd}
+use Rattle.headend.specs.End.{linkAt}
 use Rattle.headend.proofs.Exact.{RegisteredFor, ready-tick, registered-ticks}
 use Rattle.headend.proofs.Heard.{group-for, report-restarts}
 use Rattle.headend.proofs.Ready.{Ready}
+use Rattle.pair.specs.Ends.{Ends, ends}
 use Rattle.pair.specs.Exact.{HeadDrops}
 use Rattle.pair.proofs.Alike.{floor-alike}
 use Rattle.pair.proofs.Messages.{IsReport}
 use Rattle.pair.proofs.OnWay.{OnWay, stays-on, ticks-on}
 use Rattle.pair.proofs.OneLink.{out}
 use Rattle.pair.proofs.Pairs.{Paired, to-pair}
-use Rattle.pair.proofs.Reach.{Reach, by, one, next, again, Any, then, shown}
+use Rattle.pair.proofs.Reach.{Reach, Way, by, one, next, again, Any, then, shown}
 use Rattle.pair.proofs.Way.{start-fresh}
 
 module _ (A : Address) (i : isIndividual A ≡ true) (D : ℕ) where
-  abbrev HE : End (List ℕ) (List ℕ)
-  HE = HeadEnd A
-
-  abbrev BE : End (List ℕ) (List ℕ)
-  BE = BoxEnd A
-
-  abbrev M : Type 0
-  M = Moment HE BE
+  open Ends (ends A BoxEnd) using (HE, BE, M)
 
   abbrev Out : M → Type 0
   Out m = ¬ HasRegistered BE (m .box)
@@ -109,7 +102,7 @@ module _ (A : Address) (i : isIndividual A ≡ true) (D : ℕ) where
         λ e. false≢true (sym (ap (λ (x : Registration). isRegistered (x .state)) r) ∙ ap isRegistered e),
       )
 
-  left : (m : M) → Paired A i hearOf floor-alike D m → Reach HE BE D (Any HE BE D) m 0 (Echoes D)
+  left : (m : M) → Paired A i hearOf floor-alike D m → Way HE BE D m 0 (Echoes D)
   left m q =
       let x = leaves (m .box) 62_500_000 (q .1) in
       then HE BE D m (Echoes D) (box-call deregister) tt

@@ -3,38 +3,31 @@
 use Prim.Native.Nat.{ℕ, suc}
 use mathlib.Core.Path.{_≡_}
 use mathlib.Core.Bool.{true}
-use mathlib.Core.List.{List}
 use native.Mathlib.Omega.{arith}
 use Rattle.frame.specs.declared.Address.{Address}
 use Rattle.range.specs.Fits.{isIndividual}
 use Rattle.head.specs.Head.{begun}
 use Rattle.floorbox.specs.Hear.{hearOf}
-use Rattle.pairlaw.specs.Run.{End, Moment, head-call, both-tick}
+use Rattle.pairlaw.specs.Run.{head-call, both-tick}
 use Rattle.boxend.specs.End.{BoxEnd}
 use Rattle.boxend.proofs.Exact.{AskingFor, tick-done, asking-tick}
 use Rattle.boxend.proofs.Gauge.{Ok}
 use Rattle.boxend.proofs.Laws.{box-laws}
-use Rattle.headend.specs.End.{linkAt, asks, HeadEnd}
+use Rattle.headend.specs.End.{linkAt, asks}
 use Rattle.headend.proofs.Exact.{WaitingFor, ready-tick, waiting-ticks}
 use Rattle.headend.proofs.Ready.{Ready}
+use Rattle.pair.specs.Ends.{Ends, ends}
 use Rattle.pair.specs.Exact.{BoxWaits, HeadWaits}
 use Rattle.pair.proofs.Alike.{floor-alike}
 use Rattle.pair.proofs.Asking.{at-fresh}
 use Rattle.pair.proofs.Offering.{Waits, admit, admits}
 use Rattle.pair.proofs.OneLink.{out, H, begunHead}
 use Rattle.pair.proofs.Quiet.{begun-free}
-use Rattle.pair.proofs.Reach.{Reach, one, again, Any, then, shown}
+use Rattle.pair.proofs.Reach.{Reach, Way, one, again, then, shown}
 use Rattle.pair.proofs.Way.{start, start-fresh, Asks, to-asks}
 
 module _ (A : Address) (i : isIndividual A ≡ true) (D : ℕ) where
-  abbrev HE : End (List ℕ) (List ℕ)
-  HE = HeadEnd A
-
-  abbrev BE : End (List ℕ) (List ℕ)
-  BE = BoxEnd A
-
-  abbrev M : Type 0
-  M = Moment HE BE
+  open Ends (ends A BoxEnd) using (HE, BE, M)
 
   abbrev from : M
   from = start A i hearOf floor-alike D
@@ -68,7 +61,7 @@ module _ (A : Address) (i : isIndividual A ≡ true) (D : ℕ) where
   abbrev Admitted : M → Type 0
   Admitted m = Waits A (begun H) (m .head) × Ok A (m .box)
 
-  admitting : Reach HE BE D (Any HE BE D) from 0 Admitted
+  admitting : Way HE BE D from 0 Admitted
   admitting =
       then HE BE D from Admitted (head-call (asks (admit A i (begun H) begunHead) out)) (omega arith, tt, tt)
       (admits A i (begun H) begunHead (begun-free A) .0, at-fresh A i .1 .ok)

@@ -4,7 +4,6 @@
 use Prim.Native.Nat.{ℕ, _+_, _^_, _<_}
 use mathlib.Core.Path.{_≡_, refl, subst}
 use mathlib.Core.Bool.{true}
-use mathlib.Core.List.{List}
 use native.Mathlib.Omega.{arith}
 use Rattle.clock.specs.Numbers.{watchdog, wait}
 use Rattle.clock.specs.declared.Count.{Count}
@@ -12,10 +11,11 @@ use Rattle.frame.specs.declared.Address.{Address}
 use Rattle.range.specs.Fits.{isIndividual}
 use Rattle.head.specs.declared.Head.{Head}
 use Rattle.headlaws.specs.Runs.{run-count}
-use Rattle.pairlaw.specs.Run.{End, Moment, Event, head-call, box-hears, both-tick, after, NoHalfOpen}
+use Rattle.pairlaw.specs.Run.{Event, head-call, box-hears, both-tick, after, NoHalfOpen}
 use Rattle.boxend.specs.Spoiled.{spoiledHear, SpoiledEnd}
 use Rattle.boxend.proofs.Spoiled.{spoiled-else, discovery-restarts}
-use Rattle.headend.specs.End.{asks, HeadEnd}
+use Rattle.headend.specs.End.{asks}
+use Rattle.pair.specs.Ends.{Ends, ends}
 use Rattle.pair.specs.Floor31.{Floor31}
 use Rattle.pair.proofs.Lingers.{Silent, Lingers, Echoes, allowed, ticked, lingers, echoes}
 use Rattle.pair.proofs.Messages.{IsCall, call-valid}
@@ -27,14 +27,7 @@ use Rattle.pair.proofs.Reach.{Reach, by, next, shown}
 use Rattle.pair.proofs.Way.{start-fresh}
 
 module _ (A : Address) (i : isIndividual A ≡ true) (D : ℕ) where
-  abbrev HE : End (List ℕ) (List ℕ)
-  HE = HeadEnd A
-
-  abbrev BE : End (List ℕ) (List ℕ)
-  BE = SpoiledEnd A
-
-  abbrev M : Type 0
-  M = Moment HE BE
+  open Ends (ends A SpoiledEnd) using (HE, BE, M)
 
   abbrev P : M → Type 0
   P = Silent A i spoiledHear spoiled-else D

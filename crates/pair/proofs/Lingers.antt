@@ -12,12 +12,13 @@ use Rattle.range.specs.Fits.{isIndividual}
 use Rattle.floorbox.specs.declared.Answer as floor
 use Rattle.floorbox.specs.declared.FloorBox.{FloorBox}
 use Rattle.judging.specs.declared.Request.{Request}
-use Rattle.pairlaw.specs.Run.{Answer, End, Holds, Moment, Event, box-hears, both-tick, after, Allowed}
+use Rattle.pairlaw.specs.Run.{Answer, Holds, Event, box-hears, both-tick, after, Allowed}
 use Rattle.boxend.specs.End.{EndThat}
 use Rattle.boxend.proofs.Exact.{RegisteredFor, tick-done, registered-tick, gate-restarts}
-use Rattle.headend.specs.End.{asked, HeadEnd}
+use Rattle.headend.specs.End.{asked}
 use Rattle.headend.proofs.Exact.{ready-tick, none-ticks}
 use Rattle.headend.proofs.Ready.{Ready}
+use Rattle.pair.specs.Ends.{Ends, ends}
 use Rattle.pair.proofs.Alike.{Alike, as-box}
 use Rattle.pair.proofs.Messages.{IsGate}
 use Rattle.pair.proofs.OnWay.{OnWay, ticks-on}
@@ -27,14 +28,7 @@ use Rattle.pair.proofs.Quiet.{Shut, shut-ticks}
 use Rattle.pair.proofs.Reach.{Reach, by, one, again}
 
 module _ (A : Address) (i : isIndividual A ≡ true) (hears : FloorBox → Message → ℕ → floor.Answer) (same : Alike hears) (D : ℕ) where
-  abbrev HE : End (List ℕ) (List ℕ)
-  HE = HeadEnd A
-
-  abbrev BE : End (List ℕ) (List ℕ)
-  BE = EndThat hears A
-
-  abbrev M : Type 0
-  M = Moment HE BE
+  open Ends (ends A (EndThat hears)) using (HE, BE, M)
 
   -- the head holds no link for A
   abbrev pub Silent : M → Type 0

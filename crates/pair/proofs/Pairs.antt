@@ -15,11 +15,12 @@ use Rattle.floorbox.specs.declared.Answer as floor
 use Rattle.floorbox.specs.declared.FloorBox.{FloorBox}
 use Rattle.judging.specs.declared.Request.{Request}
 use Rattle.wire.specs.Carried.{carries-valid}
-use Rattle.pairlaw.specs.Run.{Answer, End, stamp, Moment, head-call, head-hears, box-hears}
+use Rattle.pairlaw.specs.Run.{Answer, stamp, head-call, head-hears, box-hears}
 use Rattle.boxend.specs.End.{EndThat, BoxEnd}
 use Rattle.boxend.proofs.Exact as boxes
 use Rattle.boxend.proofs.Exact.{AskingFor}
-use Rattle.headend.specs.End.{asks, asked, HeadEnd}
+use Rattle.headend.specs.End.{asks, asked}
+use Rattle.pair.specs.Ends.{Ends, ends}
 use Rattle.pair.proofs.Admitted.{ack-admits}
 use Rattle.pair.proofs.Alike.{Alike, as-box}
 use Rattle.pair.proofs.Messages.{IsOffer, IsAccept, IsGate, IsReport, of-box-valid}
@@ -27,7 +28,7 @@ use Rattle.pair.proofs.Offering.{Waits, Serves, admit, admits, accepts,
 use Rattle.pair.proofs.OnWay.{OnWay, sent-on, stays-on}
 use Rattle.pair.proofs.OneLink.{out}
 use Rattle.pair.proofs.Quiet.{sync, later, later-idle, Shut}
-use Rattle.pair.proofs.Reach.{Reach, next, then, Any}
+use Rattle.pair.proofs.Reach.{Way, next, then, Any}
 use Rattle.pair.proofs.Way.{start, Asks, to-asks}
 
 -- both of two frames were handed out
@@ -36,17 +37,7 @@ both {f} {g} e =
     subst (λ (l : List (List ℕ)). List·Memᴰ f l × List·Memᴰ g l) (sym e) (List·Memᴰ·head refl, List·Memᴰ·tail (List·Memᴰ·head refl))
 
 module _ (A : Address) (i : isIndividual A ≡ true) (hears : FloorBox → Message → ℕ → floor.Answer) (same : Alike hears) (D : ℕ) where
-  abbrev HE : End (List ℕ) (List ℕ)
-  HE = HeadEnd A
-
-  abbrev BE : End (List ℕ) (List ℕ)
-  BE = EndThat hears A
-
-  abbrev M : Type 0
-  M = Moment HE BE
-
-  abbrev Way : M → ℕ → (M → Type 0) → Type 0
-  Way = Reach HE BE D (Any HE BE D)
+  open Ends (ends A (EndThat hears)) using (HE, BE, M)
 
   -- a box that is registered, with a full watchdog
   abbrev Full : FloorBox → Type 0
@@ -56,7 +47,7 @@ module _ (A : Address) (i : isIndividual A ≡ true) (hears : FloorBox → Messa
   abbrev Offered : M → Type 0
   Offered m = Waits A later (m .head) × AskingFor A 3_125_000 (m .box) × OnWay (IsOffer A) 0 (m .down)
 
-  offers : (m : M) → Asks A i hears same D m → Way m 0 Offered
+  offers : (m : M) → Asks A i hears same D m → Way HE BE D m 0 Offered
   offers m q =
       let a = admits A i later (m .head) (q .0) in
       then HE BE D m Offered (head-call (asks (admit A i later (m .head)) out)) (omega arith, tt, tt) (a .0, q .1, a .1 (m .down))
@@ -81,7 +72,7 @@ module _ (A : Address) (i : isIndividual A ≡ true) (hears : FloorBox → Messa
         sent-on (IsReport A) (messageOf A t Report) (of-box-valid A i Report tt t k) (refl, refl, refl) (x .sent) (m .up) (s .1),
       )
 
-  meets : (m : M) → Offered m → Way m 0 Met
+  meets : (m : M) → Offered m → Way HE BE D m 0 Met
   meets m q =
       let w = q .2 in
       let a = subst (Answers m) (as-box A hears same (m .box) 0 (w .octets) (w .message) (w .carries) (rw (w .is .0))) (answers m w (q .1)) in
@@ -91,14 +82,14 @@ module _ (A : Address) (i : isIndividual A ≡ true) (hears : FloorBox → Messa
   abbrev pub Paired : M → Type 0
   Paired m = Serves A later (m .head) × Full (m .box) × OnWay (IsGate A) 0 (m .down) × OnWay (IsReport A) 0 (m .up)
 
-  pairs : (m : M) → Met m → Way m 0 Paired
+  pairs : (m : M) → Met m → Way HE BE D m 0 Paired
   pairs m q =
       let w = q .2 in
       let a = accepts A i later (m .head) (q .0) w in
       then HE BE D m Paired (head-hears (record { link = 1; output = out }) (record { frame = w .octets; age = 0 })) (w .among, omega arith)
       (a .0, q .1, a .1 (m .down), q .3)
 
-  pub to-pair : Way (start A i hears same D) 32 Paired
+  pub to-pair : Way HE BE D (start A i hears same D) 32 Paired
   to-pair =
       next HE BE D (Any HE BE D) 32 0 (Asks A i hears same D) Paired (to-asks A i hears same D)
       (λ x p.
@@ -109,7 +100,7 @@ module _ (A : Address) (i : isIndividual A ≡ true) (hears : FloorBox → Messa
   abbrev pub Dropped : M → Type 0
   Dropped m = Shut A (m .head) × Full (m .box) × OnWay (IsGate A) 0 (m .down)
 
-  dropped : (m : M) → Paired m → Way m 0 Dropped
+  dropped : (m : M) → Paired m → Way HE BE D m 0 Dropped
   dropped m q =
       then HE BE D m Dropped (head-call (asks (Request.Deregister 1) out)) (tt, tt, tt) (
         record { h = later; quiet = drops A i later (m .head) (q .0); shut = later-idle },
@@ -117,5 +108,5 @@ module _ (A : Address) (i : isIndividual A ≡ true) (hears : FloorBox → Messa
         stays-on (IsGate A) (asked (m .head) (Request.Deregister 1) out .sent) (q .2),
       )
 
-  pub to-dropped : Way (start A i hears same D) 32 Dropped
+  pub to-dropped : Way HE BE D (start A i hears same D) 32 Dropped
   to-dropped = next HE BE D (Any HE BE D) 32 0 Paired Dropped to-pair dropped

@@ -80,8 +80,11 @@ module _ {Up Down : Type 0} (Head : End Up Down) (Box : End Down Up) (D : ℕ) w
   abbrev pub Any : Moment Head Box → Type 0
   Any m = Unit {0}
 
+  abbrev pub Way : Moment Head Box → ℕ → (Moment Head Box → Type 0) → Type 0
+  Way = Reach Any
+
   pub then : (m : Moment Head Box) (Q : Moment Head Box → Type 0) (e : Event Head Box) → Allowed Head Box D m e → Q (after Head Box m e)
-      → Reach Any m (tally Head Box e 0) Q
+      → Way m (tally Head Box e 0) Q
   then m Q e a q = one Any m Q e a tt tt q
 
   -- a span of k ticks with P at every moment and R at the end
@@ -92,7 +95,7 @@ module _ {Up Down : Type 0} (Head : End Up Down) (Box : End Down Up) (D : ℕ) w
     pub ends : R (last Head Box span)
 
   -- a run from a fresh start, and one that goes on from there, show one
-  pub shown : {start : Moment Head Box} → Start Head Box start → (n k : ℕ) (P Q R : Moment Head Box → Type 0) → Reach Any start n Q
+  pub shown : {start : Moment Head Box} → Start Head Box start → (n k : ℕ) (P Q R : Moment Head Box → Type 0) → Way start n Q
       → ((m : Moment Head Box) → Q m → Reach P m k R) → Shown k P R
   shown {start} fresh n k P Q R way on =
       let goes = on (play Head Box start (way .events)) (way .ends) in

@@ -12,27 +12,21 @@ use Rattle.judging.specs.declared.Request.{Request}
 use Rattle.headlaws.specs.Sound.{call-length}
 use Rattle.wire.specs.Carried.{messageIn}
 use Rattle.wire.specs.Restarts.{downRestarts, upRestarts}
-use Rattle.pairlaw.specs.Run.{End, Holds, HasRegistered, Moment, Event, head-call, head-hears, box-call, box-hears, both-tick, after, Allowed, play, Lawful, Span, first, last}
+use Rattle.pairlaw.specs.Run.{Holds, HasRegistered, Event, head-call, head-hears, box-call, box-hears, both-tick, after, Allowed, play, Lawful, Span, first, last}
 use Rattle.pairlaw.proofs.Falls.{Oks, ok-step}
 use Rattle.boxend.specs.End.{BoxEnd}
 use Rattle.boxend.proofs.Exact.{tick-done}
 use Rattle.boxend.proofs.Gauge as box
 use Rattle.boxend.proofs.Laws.{box-laws}
-use Rattle.headend.specs.End.{HeadState, HeadCall, asks, hears, heard, callOf, HeadEnd}
+use Rattle.headend.specs.End.{HeadState, HeadCall, asks, hears, heard, callOf}
 use Rattle.headend.proofs.Exact.{ready-tick}
 use Rattle.headend.proofs.Head as head
 use Rattle.headend.proofs.Head.{head-laws}
+use Rattle.pair.specs.Ends.{Ends, ends}
 use Rattle.pair.specs.Ticks.{NoTickRefused}
 
 module _ (A : Address) (D : ℕ) where
-  abbrev HE : End (List ℕ) (List ℕ)
-  HE = HeadEnd A
-
-  abbrev BE : End (List ℕ) (List ℕ)
-  BE = BoxEnd A
-
-  abbrev M : Type 0
-  M = Moment HE BE
+  open Ends (ends A BoxEnd) using (HE, BE, M)
 
   -- what runs reach
   abbrev Fine : M → Type 0

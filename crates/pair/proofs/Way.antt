@@ -18,12 +18,13 @@ use Rattle.floorbox.specs.declared.FloorBox.{FloorBox}
 use Rattle.head.specs.Head.{begun}
 use Rattle.head.specs.declared.Head.{Head}
 use Rattle.pairlaw.specs.Run as run
-use Rattle.pairlaw.specs.Run.{End, Moment, head-call, box-call, box-hears, both-tick, Start}
+use Rattle.pairlaw.specs.Run.{head-call, box-call, box-hears, both-tick, Start}
 use Rattle.boxend.specs.End.{register, stateOf, EndThat}
 use Rattle.boxend.proofs.Activated.{activate-leaves}
 use Rattle.boxend.proofs.Exact.{AskingFor, tick-done}
-use Rattle.headend.specs.End.{asks, asked, HeadEnd}
+use Rattle.headend.specs.End.{asks, asked}
 use Rattle.headend.proofs.Exact.{ready-tick}
+use Rattle.pair.specs.Ends.{Ends, ends}
 use Rattle.pair.proofs.Alike.{Alike, as-box}
 use Rattle.pair.proofs.Asking as asking
 use Rattle.pair.proofs.Asking.{At, begins, called, opened, opened-is, at-fresh, at-begins, at-called, at-ticked}
@@ -31,20 +32,10 @@ use Rattle.pair.proofs.Messages.{IsCall, call-valid}
 use Rattle.pair.proofs.OnWay.{OnWay, sent-on, only}
 use Rattle.pair.proofs.OneLink.{out, H, begunHead, begun-fresh}
 use Rattle.pair.proofs.Quiet.{ticksOf, opening, openedAt, discovery, now, later, later-is, Free, begun-free, free-ticks, free-opens}
-use Rattle.pair.proofs.Reach.{Reach, then, so, next, again, Any}
+use Rattle.pair.proofs.Reach.{Way, then, so, next, again, Any}
 
 module _ (A : Address) (i : isIndividual A ≡ true) (hears : FloorBox → Message → ℕ → Answer) (same : Alike hears) (D : ℕ) where
-  abbrev HE : End (List ℕ) (List ℕ)
-  HE = HeadEnd A
-
-  abbrev BE : End (List ℕ) (List ℕ)
-  BE = EndThat hears A
-
-  abbrev M : Type 0
-  M = Moment HE BE
-
-  abbrev Way : M → ℕ → (M → Type 0) → Type 0
-  Way = Reach HE BE D (Any HE BE D)
+  open Ends (ends A (EndThat hears)) using (HE, BE, M)
 
   abbrev pub start : M
   start = record { head = begunHead; box = freshOf A .next; down = []; up = [] }
@@ -56,7 +47,7 @@ module _ (A : Address) (i : isIndividual A ≡ true) (hears : FloorBox → Messa
   abbrev Begun : M → Type 0
   Begun m = Free A (begun H) (m .head) × At A begins (m .box)
 
-  begin : Way start 0 Begun
+  begin : Way HE BE D start 0 Begun
   begin = then HE BE D start Begun (box-call register) tt (begun-free A, at-begins A (freshOf A .next) (at-fresh A i .1))
 
   -- the head calls for newcomers, at its first count
@@ -66,7 +57,7 @@ module _ (A : Address) (i : isIndividual A ≡ true) (hears : FloorBox → Messa
   abbrev Called : M → Type 0
   Called m = Free A (openedAt now (begun H)) (m .head) × At A begins (m .box) × OnWay First 0 (m .down)
 
-  calls : (m : M) → Begun m → Way m 0 Called
+  calls : (m : M) → Begun m → Way HE BE D m 0 Called
   calls m q =
       let s = m .head in
       let f = free-opens A (begun H) s refl (omega arith) (q .0) in
@@ -79,7 +70,7 @@ module _ (A : Address) (i : isIndividual A ≡ true) (hears : FloorBox → Messa
   abbrev Heeds : M → Type 0
   Heeds m = Free A (openedAt now (begun H)) (m .head) × At A called (m .box)
 
-  heeds : (m : M) → Called m → Way m 0 Heeds
+  heeds : (m : M) → Called m → Way HE BE D m 0 Heeds
   heeds m q =
       let b = m .box in
       let w = q .2 in
@@ -105,7 +96,7 @@ module _ (A : Address) (i : isIndividual A ≡ true) (hears : FloorBox → Messa
     head-ends : ticksOf k h ≡ later
     box-ends : asking.ticksOf k p ≡ opened
 
-  turns : (k : ℕ) (m : M) → Turns (suc k) m → Way m 1 (Turns k)
+  turns : (k : ℕ) (m : M) → Turns (suc k) m → Way HE BE D m 1 (Turns k)
   unfolding ticksOf asking.ticksOf
   turns k m t =
       then HE BE D m (Turns k) (both-tick out tt) (ready-tick (t .head .quiet .ready) .reply, tick-done A (m .box) (t .box .ok))
@@ -125,14 +116,14 @@ module _ (A : Address) (i : isIndividual A ≡ true) (hears : FloorBox → Messa
     asking.asks A (m .box) (subst (λ (p : Processes). At A p (m .box)) (t .box-ends) (t .box)),
   )
 
-  turning : (m : M) → Heeds m → Way m 32 Asks
+  turning : (m : M) → Heeds m → Way HE BE D m 32 Asks
   turning m q =
       so HE BE D (Any HE BE D) (Turns 0) Asks
       (again HE BE D (Any HE BE D) Turns (λ k y t. tt) turns 32 m
       (record { h = _; p = _; head = q .0; box = q .1; head-ends = later-is; box-ends = opened-is }))
       turned
 
-  pub to-asks : Way start 32 Asks
+  pub to-asks : Way HE BE D start 32 Asks
   to-asks =
       next HE BE D (Any HE BE D) 0 32 Begun Asks begin
       (λ x p.

@@ -3,19 +3,14 @@
 use Prim.Native.Nat.{ℕ, _+_, _≤_, _<_}
 use mathlib.Core.Path.{_≡_}
 use mathlib.Core.Bool.{true}
-use mathlib.Core.List.{List}
 use Rattle.frame.specs.declared.Address.{Address}
 use Rattle.range.specs.Fits.{isIndividual}
-use Rattle.pairlaw.specs.Run.{End, Holds, HasRegistered, Span, last, length-of, All-through}
+use Rattle.pairlaw.specs.Run.{Holds, HasRegistered, Span, last, length-of, All-through}
 use Rattle.boxend.specs.End.{BoxEnd}
-use Rattle.headend.specs.End.{HeadEnd}
+use Rattle.pair.specs.Ends.{Ends, ends}
 
 module _ (A : Address) (D : ℕ) where
-  abbrev HE : End (List ℕ) (List ℕ)
-  HE = HeadEnd A
-
-  abbrev BE : End (List ℕ) (List ℕ)
-  BE = BoxEnd A
+  open Ends (ends A BoxEnd) using (HE, BE)
 
   -- if the head holds no link for A through n ticks, the box isn't registered at their end
   abbrev pub BoxDrops : ℕ → Type 0

@@ -1,4 +1,5 @@
 pub mod Demand
 pub mod Ticks
+pub mod Ends
 pub mod Exact
 pub mod Floor31
