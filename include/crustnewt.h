@@ -148,7 +148,7 @@ uint8_t crustnewt_box_next_to_send(const uint64_t *block, size_t block_words, co
                                    const uint8_t *data, size_t data_octets);
 
 /* The words of a head's block, and of each link of its table: link 1 first, each behind the one before. As with a box, read them as
- * you like and let only the library write them. */
+ * you like and let only the library write them. What the window's phase doesn't hold is not looked at. */
 enum crustnewt_head_word {
     CRUSTNEWT_HEAD_ADDRESS = 0,       /* 48 bits, the first octet on the wire highest */
     CRUSTNEWT_HEAD_COUNT = 1,         /* the 32-bit counter, in quanta */
