@@ -6,6 +6,10 @@ use Rattle.boxwords.proofs.front_words.Kinds as front-words-kinds
 use Rattle.boxwords.proofs.front_words.Reads as front-words
 use Rattle.boxwords.proofs.front_of.Kinds as front-of-kinds
 use Rattle.boxwords.proofs.front_of.Reads as front-of
+use Rattle.boxwords.proofs.entry_of.Kinds as entry-of-kinds
+use Rattle.boxwords.proofs.entry_of.Reads as entry-of
+use Rattle.boxwords.proofs.entries_in.Kinds as entries-in-kinds
+use Rattle.boxwords.proofs.entries_in.Reads as entries-in
 use Rattle.boxwords.proofs.pack.Kinds as pack-kinds
 use Rattle.boxwords.proofs.pack.Reads as pack
 use Rattle.boxwords.proofs.unpack.Kinds as unpack-kinds
@@ -18,6 +22,12 @@ front-words-settles κs a e x y p q = p ∙ sym q
 
 pub front-of-settles : Settles 0 front-of-kinds.ps front-of-kinds.r front-of.Post
 front-of-settles κs a e x y p q = p ∙ sym q
+
+pub entry-of-settles : Settles 0 entry-of-kinds.ps entry-of-kinds.r entry-of.Post
+entry-of-settles κs a e x y p q = p ∙ sym q
+
+pub entries-in-settles : Settles 0 entries-in-kinds.ps entries-in-kinds.r entries-in.Post
+entries-in-settles κs a e x y p q = p ∙ sym q
 
 pub pack-settles : Settles 0 pack-kinds.ps pack-kinds.r pack.Post
 pack-settles κs a e x y p q = p ∙ sym q

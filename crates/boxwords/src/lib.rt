@@ -2,6 +2,7 @@
 ghost use mathlib.Core.Path.{_≡_};
 ghost use mathlib.Core.Bool.{cond};
 ghost use mathlib.Core.List.{map};
+ghost use lib.ListN.{drop};
 ghost use Rattle.boxwords.specs.Box.{entryWord, entryOf, stateWord, stateOf, waitOf, registrationOf, phaseWords, lightWords, lightOf, listOf, frontWords, frontOf, boxWords, boxOf};
 ghost use Rattle.boxwords.specs.Told.{kindWords, noticeWords, toldWords};
 use clock::Count;
@@ -55,7 +56,7 @@ fn entry_word(e: Entry) -> u64
     start.0 as u64 * TURN + length.0 as u64
 }
 
-fn entry_of(word: u64) -> Entry
+pub fn entry_of(word: u64) -> Entry
     ensures { λ r. ⌜ r ≡ entryOf word ⌝ }
 {
     Entry {
@@ -286,6 +287,15 @@ pub fn front_of(w: [u64; 29]) -> Front
     }
 }
 
+// The words of the list's sixteen places.
+pub fn entries_in(w: [u64; 29]) -> [u64; 16]
+    ensures { λ r. ⌜ r ≡ drop 13 w ⌝ }
+{
+    let mut entries = [0u64; 16];
+    words::lay(&w[13..], &mut entries);
+    entries
+}
+
 // The whole box.
 pub fn pack(b: FloorBox) -> [u64; 29]
     ensures { λ r. ⌜ r ≡ boxWords b ⌝ }
@@ -314,8 +324,6 @@ pub fn pack(b: FloorBox) -> [u64; 29]
 pub fn unpack(w: [u64; 29]) -> FloorBox
     ensures { λ r. ⌜ r ≡ boxOf w ⌝ }
 {
-    let mut entries = [0u64; 16];
-    words::lay(&w[13..], &mut entries);
     let front = front_of(w);
     let address = front.address;
     let count = front.count;
@@ -324,7 +332,7 @@ pub fn unpack(w: [u64; 29]) -> FloorBox
     let processes = Processes {
         count,
         registration,
-        list: list_of(front.number, entries),
+        list: list_of(front.number, entries_in(w)),
         light,
     };
     FloorBox { address, processes }

@@ -2,7 +2,7 @@
 -- Assumes nothing.
 use Prim.Native.Nat.{ℕ, zero, suc, _+_, _*_, _/_, _%_, _^_, _≤_}
 use mathlib.Core.Path.{_≡_, refl, sym, ap, _∙_}
-use mathlib.Core.Bool.{Bool, true, false, cond, _&&_}
+use mathlib.Core.Bool.{Bool, true, false}
 use mathlib.Core.List.{List, [], _∷_, _++_, map, append-assoc}
 use native.Mathlib.Omega.{arith}
 use lib.IntN.{pos}
@@ -11,12 +11,9 @@ use Rattle.boxwords.specs.Box.{entryWord, entryOf, frontWords, frontOf, boxed, 
 use Rattle.boxwords.specs.Told.{toldWords}
 use Rattle.boxwords.specs.declared.Front.{Front}
 use Rattle.floorbox.specs.Box.{tickOf}
-use Rattle.grants.specs.declared.Entry.{Entry}
-use Rattle.light.specs.Light.{atRest}
-use Rattle.quiet.specs.Quiet.{tickOf as quietTick}
+use Rattle.quiet.specs.Quiet.{later, activates, tickOf as quietTick}
 use Rattle.quiet.specs.declared.Passed.{Passed as Ticked}
 use Rattle.quiet.proofs.Passes.{entriesLeft, passes}
-use Rattle.registration.specs.Registration.{isRegistered}
 use Rattle.telling.specs.Told.{noNotices}
 use Rattle.words.specs.Laws.{laid-over, laid-whole}
 use Rattle.words.specs.Words.{laid}
@@ -62,27 +59,27 @@ module _ (block : List ℕ) (h : 29 ≤ length block) where
 
   moved : (n : Front) → laid (boxWords (boxed n (entriesLeft n (map entryOf (drop 13 (wordsAt block)))))) block ≡ movedOn n block
   unfolding movedOn
-  moved n = split (atRest (n .light) && isRegistered (n .registration .state)) refl
+  moved n = split (activates n) refl
     where
-      split : (t : Bool) → (atRest (n .light) && isRegistered (n .registration .state)) ≡ t
+      split : (t : Bool) → activates n ≡ t
           → laid (boxWords (boxed n (entriesLeft n (map entryOf (drop 13 (wordsAt block)))))) block ≡ movedOn n block
       split true e = rw e (ap (λ (w : List ℕ). laid w block) (cleared n))
       split false e = rw e (stays n)
 
-  quiet-call : (frames reply : List ℕ) → quietTick (frontOf (wordsAt block)) .quiet ≡ true
+  quiet-call : (frames reply : List ℕ) → quietTick (frontOf (wordsAt block)) (drop 13 (wordsAt block)) .quiet ≡ true
       → settled (tickOf (boxAt block)) block frames reply
-      ≡ left 0 (movedOn (quietTick (frontOf (wordsAt block)) .next) block) frames (laid (toldWords (pos 0) 0 noNotices) reply)
-  unfolding boxAt boxOf settled handed toldOf
+      ≡ left 0 (movedOn (quietTick (frontOf (wordsAt block)) (drop 13 (wordsAt block)) .next) block) frames (laid (toldWords (pos 0) 0 noNotices) reply)
+  unfolding boxAt boxOf settled handed toldOf quietTick
   quiet-call frames reply q =
-      let n = quietTick (frontOf (wordsAt block)) .next in
-      rw (passes (frontOf (wordsAt block)) (map entryOf (drop 13 (wordsAt block))) q, moved n)
+      rw (passes (frontOf (wordsAt block)) (drop 13 (wordsAt block)) q, moved (later (frontOf (wordsAt block))))
 
 -- the theorem, by what each step of the call left
-pub quiet-left : (t : Ticked) (f : Front) (w block frames reply b r : List ℕ) → w ≡ wordsAt block → f ≡ frontOf w → t ≡ quietTick f
-    → t .quiet ≡ true → passed b r ≡ passedOn (t .next) block reply → 29 ≤ length block
+pub quiet-left : (t : Ticked) (f : Front) (e w block frames reply b r : List ℕ) → w ≡ wordsAt block → f ≡ frontOf w → e ≡ drop 13 w
+    → t ≡ quietTick f e → t .quiet ≡ true → passed b r ≡ passedOn (t .next) block reply → 29 ≤ length block
     → left 0 b frames r ≡ settled (tickOf (boxAt block)) block frames reply
 unfolding passedOn
-quiet-left t f w block frames reply b r ew ef et q p h =
-    let is : t ≡ quietTick (frontOf (wordsAt block)) = et ∙ ap quietTick (ef ∙ ap frontOf ew) in
+quiet-left t f e w block frames reply b r ew ef ee et q p h =
+    let is : t ≡ quietTick (frontOf (wordsAt block)) (drop 13 (wordsAt block)) =
+    et ∙ ap (λ (x : Front). quietTick x e) (ef ∙ ap frontOf ew) ∙ ap (quietTick (frontOf (wordsAt block))) (ee ∙ ap (drop 13) ew) in
     ap (λ (x : Passed). left 0 (x .block) frames (x .reply)) (p ∙ ap (λ (y : Ticked). passedOn (y .next) block reply) is)
     ∙ sym (quiet-call block h frames reply (sym (ap (λ (y : Ticked). y .quiet) is) ∙ q))

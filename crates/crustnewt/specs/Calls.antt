@@ -18,8 +18,7 @@ use Rattle.floorbox.specs.declared.Answer.{Answer}
 use Rattle.floorbox.specs.declared.FloorBox.{FloorBox}
 use Rattle.frame.specs.Card.{numberOf}
 use Rattle.reader.specs.Decode.{readOf}
-use Rattle.light.specs.Light.{atRest}
-use Rattle.registration.specs.Registration.{isRegistered}
+use Rattle.quiet.specs.Quiet.{activates}
 use Rattle.telling.specs.Told.{noNotices}
 use Rattle.telling.specs.declared.Frames.{Frames}
 use Rattle.words.specs.Words.{laid}
@@ -91,7 +90,7 @@ settled a block frames reply =
 -- a quiet tick moves the words before the grants; the places of a list that activation has found empty are cleared
 unfoldable pub movedOn : Front → List ℕ → List ℕ
 movedOn next block =
-    cond (atRest (next .light) && isRegistered (next .registration .state))
+    cond (activates next)
     (laid (laid (frontWords next) (replicate 29 0)) block)
     (laid (frontWords next) block)
 

@@ -251,13 +251,14 @@ pub extern "C" fn crustnewt_box_hear(
     SHORT
 }
 
-// Nearly every tick is a quiet one, and never unpacks the grants.
+// Nearly every tick is a quiet one, which leaves the grants packed.
 #[no_mangle]
 pub extern "C" fn crustnewt_box_tick(block: &mut [u64], frames: &mut [u8], reply: &mut [u64]) -> u8
     ensures { λ r. ⌜ left r (now (block .exit)) (now (frames .exit)) (now (reply .exit)) ≡ boxCall tickOf (now (block .entry)) (now (frames .entry)) (now (reply .entry)) ⌝ }
 {
     if is_lent(block.len(), frames.len(), reply.len()) {
-        let passed = quiet::tick(boxwords::front_of(words_in(block)));
+        let w = words_in(block);
+        let passed = quiet::tick(boxwords::front_of(w), boxwords::entries_in(w));
         let next = passed.next;
         if passed.quiet {
             pass(next, block, reply);

@@ -1,2 +1,4 @@
-pub mod Settled
+-- What a quiet tick is worth.
+mod Judged
 pub mod Passes
+pub mod Settled

@@ -1,19 +1,22 @@
--- A quiet tick: of a sound box without a grant, where no timer of the registration rings and the transmitter has nothing to tell.
+-- A quiet tick: of a sound box, where no timer of the registration rings, the transmitter has nothing to tell, and activation has nothing
+-- to choose from.
 -- Assumes nothing.
+use Prim.Native.Nat.{ℕ}
 use mathlib.Core.Bool.{Bool, true, false, not, _&&_, _||_}
-use mathlib.Core.List.{[]}
+use mathlib.Core.List.{List, map}
 use lib.Dec.{eqb}
+use Rattle.boxwords.specs.Box.{entryOf, boxed}
 use Rattle.boxwords.specs.declared.Front.{Front}
 use Rattle.clock.specs.Counts.{nextOf}
-use Rattle.grants.specs.Listed.{packed}
+use Rattle.floorbox.specs.Box.{soundOf}
+use Rattle.grants.specs.declared.Entry.{Entry}
 use Rattle.light.specs.Light.{atRest}
-use Rattle.light.specs.Sound.{soundOf as lightSound}
 use Rattle.light.specs.Tick.{tickOf as lightTick}
 use Rattle.light.specs.declared.Beam.{Beam}
 use Rattle.light.specs.declared.Beam.the-variants.{Quiet, Window, Start, Opened, Closed}
-use Rattle.range.specs.Fits.{isIndividual}
-use Rattle.registration.specs.Registration.{isWaiting}
-use Rattle.registration.specs.Sound.{soundOf as registrationSound}
+use Rattle.light.specs.declared.Light.{Light}
+use Rattle.light.specs.declared.Light.the-variants.{Rest, Before, Random, Warming, Asking, Due, Lit, Open}
+use Rattle.registration.specs.Registration.{isRegistered}
 use Rattle.registration.specs.Tick.{tickOf as registrationTick}
 use Rattle.registration.specs.declared.Bell.{Bell}
 use Rattle.quiet.specs.declared.Passed.{Passed}
@@ -31,28 +34,49 @@ isDark (Start entry sync) = false
 isDark Opened = false
 isDark Closed = false
 
--- the box's soundness, of one without a grant
-unfoldable pub soundOf : Front → Bool
-soundOf f =
-    isIndividual (f .address)
-    && registrationSound (f .registration)
-    && eqb (f .number) 0
-    && lightSound (f .light) (packed [])
-    && (atRest (f .light) || not (isWaiting (f .registration .state)))
+abbrev pub isDue : Light → Bool
+isDue Rest = false
+isDue (Before t random sync) = false
+isDue (Random t sync) = false
+isDue (Warming t) = false
+isDue (Asking t) = false
+isDue (Due t entry sync) = true
+isDue (Lit t length sync) = false
+isDue (Open t) = false
 
--- the count and the timers move
-unfoldable pub tickOf : Front → Passed
-tickOf f =
-    let r = registrationTick (f .registration) in
-    let l = lightTick (f .light) in
+-- the grant that is waited for
+abbrev pub dueOf : Light → Entry
+dueOf Rest = entryOf 0
+dueOf (Before t random sync) = entryOf 0
+dueOf (Random t sync) = entryOf 0
+dueOf (Warming t) = entryOf 0
+dueOf (Asking t) = entryOf 0
+dueOf (Due t entry sync) = entry
+dueOf (Lit t length sync) = entryOf 0
+dueOf (Open t) = entryOf 0
+
+-- a tick later: the count and the timers move
+abbrev pub later : Front → Front
+later f =
     record {
-      quiet = soundOf f && isSilent (r .bell) && isDark (l .beam);
-      next =
-          record {
-            address = f .address;
-            count = nextOf (f .count);
-            registration = r .registration;
-            light = l .light;
-            number = f .number;
-          };
+      address = f .address;
+      count = nextOf (f .count);
+      registration = registrationTick (f .registration) .registration;
+      light = lightTick (f .light) .light;
+      number = f .number;
+    }
+
+-- activation comes when at rest and REGISTERED
+abbrev pub activates : Front → Bool
+activates f = atRest (f .light) && isRegistered (f .registration .state)
+
+unfoldable pub tickOf : Front → List ℕ → Passed
+tickOf f entries =
+    record {
+      quiet =
+          soundOf (boxed f (map entryOf entries))
+          && isSilent (registrationTick (f .registration) .bell)
+          && isDark (lightTick (f .light) .beam)
+          && (eqb (f .number) 0 || not (activates (later f)));
+      next = later f;
     }

@@ -1,10 +1,25 @@
-// A tick of the box at which nothing happens but that time passes. It moves what stands before the grants, so that a tick can do without them.
+// A tick of the box at which nothing happens but that time passes: it moves what stands before the grants, and the grants stay words.
+ghost use Prim.Native.Nat.{min};
 ghost use mathlib.Core.Path.{_≡_};
-ghost use Rattle.quiet.specs.Quiet.{isSilent, isDark, soundOf, tickOf};
+ghost use mathlib.Core.List.{map};
+ghost use Rattle.boxwords.specs.Box.{entryOf, listOf, boxed};
+ghost use Rattle.floorbox.specs.Box.{soundOf as boxSound};
+ghost use Rattle.grants.specs.Activation.{holds};
+ghost use Rattle.grants.specs.Listed.{listOf as heldIn};
+ghost use Rattle.grants.specs.Sound.{soundOf as listSound};
+ghost use Rattle.light.specs.Sound.{soundOf as lightSound};
+ghost use Rattle.quiet.specs.Quiet.{isSilent, isDark, isDue, dueOf, tickOf};
 use boxwords::Front;
+use clock::Count;
+use clock::Quanta;
+use grants::Entry;
 use grants::GrantList;
 use light::Beam;
+use light::Light;
 use registration::Bell;
+
+// A length is sixteen bits.
+const LONGEST: u32 = 0xFFFF;
 
 // What stands before the grants after a tick, and whether the tick is a quiet one.
 pub struct Passed {
@@ -35,22 +50,139 @@ fn is_dark(beam: Beam) -> bool
     }
 }
 
-// Sound, and without a grant.
-fn sound(f: Front) -> bool
-    ensures { λ r. ⌜ r ≡ soundOf f ⌝ }
+fn is_due(light: Light) -> bool
+    ensures { λ r. ⌜ r ≡ isDue light ⌝ }
+{
+    match light {
+        Light::Rest => false,
+        Light::Before {
+            timer: _,
+            random: _,
+            sync: _,
+        } => false,
+        Light::Random { timer: _, sync: _ } => false,
+        Light::Warming { timer: _ } => false,
+        Light::Asking { timer: _ } => false,
+        Light::Due {
+            timer: _,
+            entry: _,
+            sync: _,
+        } => true,
+        Light::Lit {
+            timer: _,
+            length: _,
+            sync: _,
+        } => false,
+        Light::Open { timer: _ } => false,
+    }
+}
+
+fn none() -> Entry
+    ensures { λ r. ⌜ r ≡ entryOf 0 ⌝ }
+{
+    Entry {
+        start: Count(0),
+        length: Quanta(0),
+    }
+}
+
+// The grant that is waited for.
+fn due(light: Light) -> Entry
+    ensures { λ r. ⌜ r ≡ dueOf light ⌝ }
+{
+    match light {
+        Light::Rest => none(),
+        Light::Before {
+            timer: _,
+            random: _,
+            sync: _,
+        } => none(),
+        Light::Random { timer: _, sync: _ } => none(),
+        Light::Warming { timer: _ } => none(),
+        Light::Asking { timer: _ } => none(),
+        Light::Due {
+            timer: _,
+            entry,
+            sync: _,
+        } => entry,
+        Light::Lit {
+            timer: _,
+            length: _,
+            sync: _,
+        } => none(),
+        Light::Open { timer: _ } => none(),
+    }
+}
+
+// How many grants are held: the number, at most sixteen.
+fn held(number: usize) -> usize
+    ensures { λ r. ⌜ r ≡ min number 16 ⌝ }
+{
+    if number < GrantList::ROOM {
+        return number;
+    }
+    GrantList::ROOM
+}
+
+fn list_sound(number: usize, entries: [u64; 16]) -> bool
+    ensures { λ r. ⌜ r ≡ listSound (listOf number entries) ⌝ }
+{
+    let n = held(number);
+    let mut fits = number <= GrantList::ROOM;
+    let mut i = 0;
+    while i < n {
+        let e = boxwords::entry_of(entries[i]);
+        let length = e.length;
+        fits = fits & (length.0 <= LONGEST);
+        i += 1;
+    }
+    fits
+}
+
+fn is_listed(number: usize, entries: [u64; 16], e: Entry) -> bool
+    ensures { λ r. ⌜ r ≡ holds e (heldIn (listOf number entries)) ⌝ }
+{
+    let start = e.start;
+    let length = e.length;
+    let n = held(number);
+    let mut met = false;
+    let mut i = 0;
+    while i < n {
+        let x = boxwords::entry_of(entries[i]);
+        let begin = x.start;
+        let long = x.length;
+        met = met | ((start.0 == begin.0) & (length.0 == long.0));
+        i += 1;
+    }
+    met
+}
+
+// The core judges a grant that is waited for as the only one of a list; whether it is one of these is judged here.
+fn light_sound(light: Light, number: usize, entries: [u64; 16]) -> bool
+    ensures { λ r. ⌜ r ≡ lightSound light (listOf number entries) ⌝ }
+{
+    let e = due(light);
+    let empty = GrantList::empty();
+    light.sound(empty.push(e)) & (is_listed(number, entries, e) | !is_due(light))
+}
+
+fn sound(f: Front, entries: [u64; 16]) -> bool
+    ensures { λ r. ⌜ r ≡ boxSound (boxed f (map entryOf entries)) ⌝ }
 {
     let address = f.address;
     let registration = f.registration;
     let light = f.light;
     range::individual(address)
-        & registration.sound()
-        & (f.number == 0)
-        & light.sound(GrantList::empty())
-        & (light.at_rest() | !registration.is_waiting())
+        & (registration.sound()
+            & list_sound(f.number, entries)
+            & (registration.is_registered() | (f.number == 0))
+            & light_sound(light, f.number, entries)
+            & (light.at_rest() | !registration.is_waiting()))
 }
 
-pub fn tick(f: Front) -> Passed
-    ensures { λ r. ⌜ r ≡ tickOf f ⌝ }
+// Activation, which comes when at rest and REGISTERED, has nothing to choose from.
+pub fn tick(f: Front, entries: [u64; 16]) -> Passed
+    ensures { λ r. ⌜ r ≡ tickOf f entries ⌝ }
 {
     let address = f.address;
     let count = f.count;
@@ -63,7 +195,10 @@ pub fn tick(f: Front) -> Passed
     let lit = l.light;
     let beam = l.beam;
     Passed {
-        quiet: sound(f) & is_silent(bell) & is_dark(beam),
+        quiet: sound(f, entries)
+            & is_silent(bell)
+            & is_dark(beam)
+            & ((f.number == 0) | !(lit.at_rest() & timed.is_registered())),
         next: Front {
             address,
             count: count.next(),

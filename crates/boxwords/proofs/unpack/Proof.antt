@@ -1,67 +1,22 @@
 -- `boxwords::unpack` meets its promise.
 -- Assumes nothing.
-use Prim.Native.Nat.{ℕ}
-use borrow.Author.Needs.{needs}
-use lib.ListN.{length, take, drop, replicate, length-take, length-drop}
-use lib.Seq.{take-all}
-use mathlib.Core.List.{List}
-use mathlib.Core.Path.{_≡_, _∙_}
-use native.Mathlib.Omega.{arith}
 use Rattle.boxwords.specs.Box.{boxOf}
-use Rattle.words.specs.Laws.{laid-whole}
-use Rattle.words.specs.Words.{laid}
+use borrow.Author.Needs.{needs}
 use Rattle.boxwords.proofs.unpack.Statement.{statement}
 use Rattle.boxwords.proofs.unpack.Tie as tie
 
--- the words behind the thirteenth fill sixteen places
-behind : (w : List ℕ) → length w ≡ 29 → laid (take 16 (drop 13 w)) (replicate 16 0) ≡ drop 13 w
-behind w h =
-    laid-whole (take 16 (drop 13 w)) (replicate 16 0) (simp (length-take, length-drop) (omega arith))
-    ∙ take-all 16 (take 16 (drop 13 w)) (simp (length-take, length-drop) (omega arith))
-    ∙ take-all 16 (drop 13 w) (simp length-drop (omega arith))
-
-sub-lay : tie.Need-sub-lay
-sub-lay c = search needs
-
-part-lay-start : tie.Need-part-lay-start
-part-lay-start c = search needs
-
-part-lay-end : tie.Need-part-lay-end
-part-lay-end c = search needs
-
-slice-aggregate-lay : tie.Need-slice-aggregate-lay
-slice-aggregate-lay c = search needs
-
-lay-requires : tie.Need-lay-requires
-lay-requires c κs = search needs
-
 front-of-requires : tie.Need-front-of-requires
 front-of-requires c κs = search needs
+
+entries-in-requires : tie.Need-entries-in-requires
+entries-in-requires c κs = search needs
 
 list-of-requires : tie.Need-list-of-requires
 list-of-requires c κs = search needs
 
 returns : tie.Need-returns
 unfolding boxOf
-returns c =
-    let w = c .before .before .before .before .before .before .before .before .before .before .args .t1 in
-    let full : length w ≡ 29 = omega arith in
-    rw (
-      c .list-of .ensures,
-      c .before .before .before .before .front-of .ensures,
-      c .before .before .before .before .before .before .lay .ensures,
-      behind w full,
-    )
+returns c = rw (c .list-of .ensures, c .before .entries-in .ensures, c .before .before .before .before .before .front-of .ensures)
 
 pub unpack-spec : {M : Type 1} → statement M
-unpack-spec =
-    tie.close
-    (tie.spec
-    sub-lay
-    part-lay-start
-    part-lay-end
-    slice-aggregate-lay
-    lay-requires
-    front-of-requires
-    list-of-requires
-    returns)
+unpack-spec = tie.close (tie.spec front-of-requires entries-in-requires list-of-requires returns)

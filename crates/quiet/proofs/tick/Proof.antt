@@ -20,12 +20,18 @@ is-silent-requires c κs = search needs
 is-dark-requires : tie.Need-is-dark-requires
 is-dark-requires c κs = search needs
 
+at-rest-requires : tie.Need-at-rest-requires
+at-rest-requires c κs = search needs
+
+is-registered-requires : tie.Need-is-registered-requires
+is-registered-requires c κs = search needs
+
 next-requires : tie.Need-next-requires
 next-requires c κs = search needs
 
 returns : tie.Need-returns
 unfolding tickOf
-returns c = rw (c .next .ensures, c .before .is-dark .ensures, c .before .before .is-silent .ensures, c .before .before .before .sound .ensures, c .before .before .before .before .tick2 .ensures, c .before .before .before .before .before .before .tick .ensures)
+returns c = rw (c .next .ensures, c .before .is-registered .ensures, c .before .before .at-rest .ensures, c .before .before .before .before .is-dark .ensures, c .before .before .before .before .before .is-silent .ensures, c .before .before .before .before .before .before .sound .ensures, c .before .before .before .before .before .before .before .tick2 .ensures, c .before .before .before .before .before .before .before .before .before .tick .ensures)
 
 pub tick-spec : {M : Type 1} → statement M
 tick-spec =
@@ -36,5 +42,7 @@ tick-spec =
     sound-requires
     is-silent-requires
     is-dark-requires
+    at-rest-requires
+    is-registered-requires
     next-requires
     returns)
