@@ -276,19 +276,42 @@ uint8_t crustnewt_read(const uint8_t *octets, size_t octets_length, uint64_t *me
  * no field's or a field is outside its range. */
 uint8_t crustnewt_write(const uint64_t *message, size_t message_words, uint8_t *octets, size_t octets_length);
 
-/* A worked example, in short; examples/pair.c registers a box with a head:
+/* A worked example, whole: a box that registers and then lives on its quanta. examples/pair.c has both ends.
  *
- *   uint64_t box[CRUSTNEWT_BOX_WORDS], reply[CRUSTNEWT_BOX_REPLY_WORDS];
- *   uint8_t frames[CRUSTNEWT_BOX_FRAMES_OCTETS];
+ *   #include "crustnewt.h"
  *
- *   crustnewt_box_fresh(0x020000000031, box, CRUSTNEWT_BOX_WORDS, frames, sizeof frames, reply, CRUSTNEWT_BOX_REPLY_WORDS);
- *   crustnewt_box_register(box, CRUSTNEWT_BOX_WORDS, frames, sizeof frames, reply, CRUSTNEWT_BOX_REPLY_WORDS);
- *   for (;;) {                                                     // once a quantum
- *       if (crustnewt_box_tick(box, CRUSTNEWT_BOX_WORDS, frames, sizeof frames, reply, CRUSTNEWT_BOX_REPLY_WORDS) != CRUSTNEWT_DONE)
- *           break;
+ *   // The board's: the next quantum's frame if one came (0 octets if not), the queue of frames to send, the laser.
+ *   size_t wait_for_quantum(uint8_t *octets);
+ *   void queue_control_frame(const uint8_t *octets);
+ *   void laser(int on);
+ *   uint32_t random_number(void);
+ *
+ *   static uint64_t box[CRUSTNEWT_BOX_WORDS], reply[CRUSTNEWT_BOX_REPLY_WORDS];
+ *   static uint8_t frames[CRUSTNEWT_BOX_FRAMES_OCTETS];
+ *   #define LENT box, CRUSTNEWT_BOX_WORDS, frames, sizeof frames, reply, CRUSTNEWT_BOX_REPLY_WORDS
+ *
+ *   static void send(void)
+ *   {
  *       for (uint64_t i = 0; i < reply[CRUSTNEWT_BOX_REPLY_FRAMES]; i++)
  *           queue_control_frame(frames + i * CRUSTNEWT_FRAME_OCTETS);
- *       laser(box[CRUSTNEWT_BOX_LIGHT] == CRUSTNEWT_BOX_LIGHT_WARMING || ...);
+ *   }
+ *
+ *   uint8_t run(uint64_t address)
+ *   {
+ *       uint8_t octets[2048], number = crustnewt_box_fresh(address, LENT);
+ *       if (number == CRUSTNEWT_DONE)
+ *           number = crustnewt_box_register(LENT);
+ *       while (number == CRUSTNEWT_DONE) {
+ *           size_t heard = wait_for_quantum(octets);
+ *           if (heard > 0 && crustnewt_box_hear(octets, heard, random_number(), LENT) == CRUSTNEWT_DONE)
+ *               send();
+ *           number = crustnewt_box_tick(LENT);
+ *           if (number == CRUSTNEWT_DONE)
+ *               send();
+ *           laser(box[CRUSTNEWT_BOX_LIGHT] == CRUSTNEWT_BOX_LIGHT_WARMING || box[CRUSTNEWT_BOX_LIGHT] == CRUSTNEWT_BOX_LIGHT_ASKING ||
+ *                 box[CRUSTNEWT_BOX_LIGHT] == CRUSTNEWT_BOX_LIGHT_LIT || box[CRUSTNEWT_BOX_LIGHT] == CRUSTNEWT_BOX_LIGHT_OPEN);
+ *       }
+ *       return number;
  *   }
  */
 

@@ -1,14 +1,12 @@
 -- A box as words of 64 bits: which word holds what, and what box any words tell.
 -- Assumes nothing.
-use Prim.Native.Nat.{ℕ, _+_, _*_, _/_, _%_, _^_, min}
+use Prim.Native.Nat.{ℕ, _+_, _*_, _/_, _%_, _^_}
 use mathlib.Core.Bool.{cond}
 use mathlib.Core.List.{List, [], _∷_, _++_, map}
 use lib.Dec.{eqb, ltb}
 use lib.ListN.{drop, getD}
-use Rattle.clock.specs.declared.Quanta.{Quanta}
 use Rattle.clock.specs.declared.Timer.{Timer}
 use Rattle.floorbox.specs.declared.FloorBox.{FloorBox}
-use Rattle.frame.specs.declared.Address.{Address}
 use Rattle.grants.specs.declared.Entry.{Entry}
 use Rattle.grants.specs.declared.GrantList.{GrantList}
 use Rattle.light.specs.declared.Light.{Light}

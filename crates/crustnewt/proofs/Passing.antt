@@ -1,6 +1,6 @@
 -- A quiet tick, and what it leaves in the caller's memory, is the tick of the box in the block.
 -- Assumes nothing.
-use Prim.Native.Nat.{ℕ, zero, suc, _+_, _*_, _/_, _%_, _^_, _≤_}
+use Prim.Native.Nat.{ℕ, zero, suc, _+_, _≤_}
 use mathlib.Core.Path.{_≡_, refl, sym, ap, _∙_}
 use mathlib.Core.Bool.{Bool, true, false}
 use mathlib.Core.List.{List, [], _∷_, _++_, map, append-assoc}
@@ -17,7 +17,8 @@ use Rattle.quiet.proofs.Passes.{entriesLeft, passes}
 use Rattle.telling.specs.Told.{noNotices}
 use Rattle.words.specs.Laws.{laid-over, laid-whole}
 use Rattle.words.specs.Words.{laid}
-use Rattle.crustnewt.specs.Calls.{Passed, left, wordsAt, boxAt, movedOn, passed, passedOn, toldOf, handed, settled}
+use Rattle.crustnewt.specs.Calls.{left, wordsAt, boxAt, toldOf, handed, settled}
+use Rattle.crustnewt.specs.Passing.{Passed, movedOn, passed, passedOn}
 
 -- a grant's word is what it was
 word-again : (w : ℕ) → entryWord (entryOf w) ≡ w

@@ -5,11 +5,9 @@ use mathlib.Core.Bool.{Bool, cond, _&&_}
 use mathlib.Core.List.{List, _++_}
 use denote.Ref.{RefT}
 use lib.Dec.{eqb, leb, ltb}
-use lib.IntN.{pos}
 use lib.ListN.{length, drop, replicate}
-use Rattle.boxwords.specs.Box.{frontWords, boxWords, boxOf}
+use Rattle.boxwords.specs.Box.{boxWords, boxOf}
 use Rattle.boxwords.specs.Told.{toldWords}
-use Rattle.boxwords.specs.declared.Front.{Front}
 use Rattle.floorbox.specs.Answer.{refused}
 use Rattle.floorbox.specs.Box.{freshOf}
 use Rattle.floorbox.specs.Hear.{hearOf}
@@ -18,8 +16,6 @@ use Rattle.floorbox.specs.declared.Answer.{Answer}
 use Rattle.floorbox.specs.declared.FloorBox.{FloorBox}
 use Rattle.frame.specs.Card.{numberOf}
 use Rattle.reader.specs.Decode.{readOf}
-use Rattle.quiet.specs.Quiet.{activates}
-use Rattle.telling.specs.Told.{noNotices}
 use Rattle.telling.specs.declared.Frames.{Frames}
 use Rattle.words.specs.Words.{laid}
 
@@ -86,24 +82,6 @@ handed a block frames reply = with (laid (boxWords (a .next)) block) (toldOf a f
 unfoldable pub settled : Answer → List ℕ → List ℕ → List ℕ → Left
 settled a block frames reply =
     cond (eqb (numberOf (a .reply)) 0) (handed a block frames reply) (with block (toldOf a frames reply))
-
--- a quiet tick moves the words before the grants; the places of a list that activation has found empty are cleared
-unfoldable pub movedOn : Front → List ℕ → List ℕ
-movedOn next block =
-    cond (activates next)
-    (laid (laid (frontWords next) (replicate 29 0)) block)
-    (laid (frontWords next) block)
-
--- what it leaves in the block and in what is told
-pub record Passed : Type 0 where
-  pub block : List ℕ
-  pub reply : List ℕ
-
-abbrev pub passed : List ℕ → List ℕ → Passed
-passed block reply = record { block = block; reply = reply }
-
-unfoldable pub passedOn : Front → List ℕ → List ℕ → Passed
-passedOn next block reply = passed (movedOn next block) (laid (toldWords (pos 0) 0 noNotices) reply)
 
 -- a fresh box stands in the block even where it is refused: it then holds address zero
 unfoldable pub freshCall : ℕ → List ℕ → List ℕ → List ℕ → Left

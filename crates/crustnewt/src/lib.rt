@@ -2,7 +2,8 @@
 ghost use mathlib.Core.Path.{_≡_};
 ghost use Prim.Native.Nat.{_≤_};
 ghost use lib.ListN.{length, take};
-ghost use Rattle.crustnewt.specs.Calls.{told, left, wordsAt, boxAt, isLent, movedOn, passed, passedOn, heardOf, laidOne, laidBoth, laidFrames, toldOf, handed, settled, freshCall, boxCall, nextCall};
+ghost use Rattle.crustnewt.specs.Calls.{told, left, wordsAt, boxAt, isLent, heardOf, laidOne, laidBoth, laidFrames, toldOf, handed, settled, freshCall, boxCall, nextCall};
+ghost use Rattle.crustnewt.specs.Passing.{movedOn, passed, passedOn};
 ghost use Rattle.crustnewt.specs.Read.{readLeft, readCall};
 ghost use Rattle.crustnewt.specs.Write.{writeLeft, hasRoom, writingOf, writeCall};
 ghost use Rattle.boxwords.specs.Box.{boxWords};

@@ -2,19 +2,18 @@
 -- core's run.
 -- Assumes nothing.
 use Prim.Native.Nat.{ℕ, _≤_}
-use mathlib.Core.Path.{_≡_, refl, sym, ap, _∙_}
+use mathlib.Core.Path.{_≡_, ap, _∙_}
 use mathlib.Core.Bool.{true, false}
-use mathlib.Core.List.{List, _++_, map}
+use mathlib.Core.List.{List, _++_}
 use native.Mathlib.Omega.{arith}
 use lib.Dec.{eqb}
-use lib.ListN.{length, take, drop, replicate, length-append, length-map}
+use lib.ListN.{length, drop, replicate, length-append, length-map}
 use lib.Seq.{take-at}
 use Rattle.boxwords.specs.Box.{entryWord, frontWords, boxWords, boxOf}
-use Rattle.crustnewt.specs.Calls.{Left, wordsAt, boxAt, isLent, handed, settled, boxCall}
+use Rattle.crustnewt.specs.Calls.{wordsAt, boxAt, isLent, handed, settled, boxCall}
 use Rattle.floorbox.specs.declared.Answer.{Answer}
 use Rattle.floorbox.specs.declared.FloorBox.{FloorBox}
 use Rattle.frame.specs.Card.{numberOf}
-use Rattle.grants.specs.declared.Entry.{Entry}
 use Rattle.words.specs.Words.{laid}
 use Rattle.words.specs.Laws.{laid-over, laid-whole}
 use Rattle.facelaws.proofs.RoundTrip.{Fits, unpacked}

@@ -1,25 +1,22 @@
 -- A box that is packed into words and unpacked is the same box, whatever it holds, as long as each number fits its type: so a call of
 -- the C face on a block that a call left is the core's call on the core's own answer.
 -- Assumes nothing.
-use Prim.Native.Nat.{ℕ, _+_, _*_, _/_, _%_, _^_, _≤_, _<_, min}
-use mathlib.Core.Path.{_≡_, refl, sym, ap, _∙_}
-use mathlib.Core.List.{List, [], _∷_, _++_, map}
+use Prim.Native.Nat.{ℕ, _+_, _*_, _/_, _%_, _^_, _<_}
+use mathlib.Core.Path.{_≡_, refl}
+use mathlib.Core.List.{List, [], _∷_, map}
 use native.Mathlib.Omega.{arith}
 use borrow.Author.Tests.{le-ltb}
-use lib.ListN.{length, take, drop, replicate, length-map}
-use lib.Seq.{take-all, take-at}
+use lib.ListN.{length}
 use Rattle.clock.specs.declared.Quanta.{Quanta}
 use Rattle.clock.specs.declared.Timer.{Timer}
 use Rattle.floorbox.specs.declared.FloorBox.{FloorBox}
 use Rattle.grants.specs.declared.Entry.{Entry}
-use Rattle.grants.specs.declared.GrantList.{GrantList}
 use Rattle.light.specs.declared.Light.{Light}
 use Rattle.light.specs.declared.Light.the-variants.{Rest, Before, Random, Warming, Asking, Due, Lit, Open}
 use Rattle.registration.specs.declared.Registration.{Registration}
 use Rattle.registration.specs.declared.State.{State}
 use Rattle.registration.specs.declared.State.the-variants.{Wait, Registering, RegisterReq, Registered}
-use Rattle.words.specs.Words.{narrowed, laid}
-use Rattle.words.specs.Laws.{laid-whole}
+use Rattle.words.specs.Words.{narrowed}
 use Rattle.boxwords.specs.Box.{entryWord, entryOf, stateWord, stateOf, waitOf, registrationOf, lightWords, lightOf, frontWords, frontOf, boxWords, boxOf}
 use Rattle.fields.specs.Fields.{timerOf, quantaOf, shortOf, addressOf}
 

@@ -1,12 +1,10 @@
 -- The message that any words of 64 bits tell, and whether they are the words of a message.
 -- Assumes nothing.
-use Prim.Native.Nat.{ℕ, min}
+use Prim.Native.Nat.{ℕ}
 use mathlib.Core.Bool.{Bool, true, false, cond, _&&_}
 use mathlib.Core.List.{List, [], _∷_}
 use lib.Dec.{eqb}
 use lib.ListN.{getD}
-use Rattle.clock.specs.declared.Count.{Count}
-use Rattle.clock.specs.declared.Quanta.{Quanta}
 use Rattle.frame.specs.declared.Body.{Body}
 use Rattle.frame.specs.declared.Body.the-variants.{Gate, Discovery, Report, RegisterReq, Register, RegisterAck}
 use Rattle.frame.specs.declared.Grant.{Grant}

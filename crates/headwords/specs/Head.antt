@@ -3,11 +3,8 @@
 use Prim.Native.Nat.{ℕ}
 use mathlib.Core.Bool.{cond}
 use mathlib.Core.List.{List, [], _∷_}
-use lib.Dec.{eqb, ltb}
+use lib.Dec.{eqb}
 use lib.ListN.{getD}
-use Rattle.clock.specs.declared.Quanta.{Quanta}
-use Rattle.clock.specs.declared.Timer.{Timer}
-use Rattle.frame.specs.declared.Address.{Address}
 use Rattle.head.specs.declared.Head.{Head}
 use Rattle.head.specs.declared.Window.{Window}
 use Rattle.head.specs.declared.Window.the-variants.{Idle, Before, Inside}

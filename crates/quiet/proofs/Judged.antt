@@ -1,7 +1,7 @@
 -- The soundness of a box, judged in another order than the core does.
 -- Assumes nothing.
 use Prim.Native.Nat.{_-_, _^_}
-use mathlib.Core.Path.{_≡_, refl, _∙_}
+use mathlib.Core.Path.{_≡_, refl}
 use mathlib.Core.Bool.{Bool, true, false, not, _&&_, _||_, or-true, or-false, and-true, and-false}
 use mathlib.Core.List.{[]}
 use borrow.Author.Tests.{eq-eqb}
@@ -45,6 +45,17 @@ judged (Asking t) s = free (soundOf (Asking t) s) (holds (dueOf Rest) (listOf s)
 judged (Due t entry sync) s = rw (alone entry) (apart (runs t (2 ^ 31 - 1)) (holds entry (listOf s)) (served (entry .length) sync))
 judged (Lit t length sync) s = free (soundOf (Lit t length sync) s) (holds (dueOf Rest) (listOf s))
 judged (Open t) s = free (soundOf (Open t) s) (holds (dueOf Rest) (listOf s))
+
+-- what the transmitter's soundness asks of the list is what stands in it
+pub list-only : (l : Light) (s t : GrantList) → listOf s ≡ listOf t → soundOf l s ≡ soundOf l t
+list-only Rest s t e = refl
+list-only (Before timer random sync) s t e = refl
+list-only (Random timer sync) s t e = refl
+list-only (Warming timer) s t e = refl
+list-only (Asking timer) s t e = refl
+list-only (Due timer entry sync) s t e = rw e
+list-only (Lit timer length sync) s t e = refl
+list-only (Open timer) s t e = refl
 
 -- in WAIT the transmitter is at rest
 pub rests : (s : State) (l : Light) → (atRest l || not (isWaiting s)) ≡ restsIn s l

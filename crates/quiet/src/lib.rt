@@ -166,18 +166,24 @@ fn light_sound(light: Light, number: usize, entries: [u64; 16]) -> bool
     light.sound(empty.push(e)) & (is_listed(number, entries, e) | !is_due(light))
 }
 
+// Most boxes hold no grant: the sixteen places are then not looked at.
 fn sound(f: Front, entries: [u64; 16]) -> bool
     ensures { λ r. ⌜ r ≡ boxSound (boxed f (map entryOf entries)) ⌝ }
 {
     let address = f.address;
     let registration = f.registration;
     let light = f.light;
-    range::individual(address)
+    let individual = range::individual(address);
+    let rests = light.at_rest() | !registration.is_waiting();
+    if f.number == 0 {
+        return individual & (registration.sound() & light.sound(GrantList::empty()) & rests);
+    }
+    individual
         & (registration.sound()
             & list_sound(f.number, entries)
-            & (registration.is_registered() | (f.number == 0))
+            & registration.is_registered()
             & light_sound(light, f.number, entries)
-            & (light.at_rest() | !registration.is_waiting()))
+            & rests)
 }
 
 // Activation, which comes when at rest and REGISTERED, has nothing to choose from.

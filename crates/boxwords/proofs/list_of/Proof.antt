@@ -1,13 +1,12 @@
 -- `boxwords::list_of` meets its promise.
 -- Assumes nothing.
-use Prim.Native.Nat.{ℕ, _≤_, _<_, _-_}
-use mathlib.Core.Path.{_≡_, refl, sym, _∙_, ap}
+use Prim.Native.Nat.{_≤_, _<_, _-_}
+use mathlib.Core.Path.{_≡_, refl, ap}
 use mathlib.Core.List.{List, map}
 use lib.ListN.{length, take, length-set}
 use borrow.Author.Needs.{needs}
 use native.Mathlib.Omega.{arith}
 use Rattle.grants.specs.declared.Entry.{Entry}
-use Rattle.grants.specs.declared.GrantList.{GrantList}
 use Rattle.words.specs.Laws.{fill-again, fill-done}
 use Rattle.boxwords.specs.Box.{entryOf}
 use Rattle.boxwords.proofs.list_of.Statement.{statement}

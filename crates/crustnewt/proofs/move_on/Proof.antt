@@ -1,6 +1,6 @@
 -- `crustnewt::move_on` meets its promise.
 -- Assumes nothing.
-use Rattle.crustnewt.specs.Calls.{movedOn}
+use Rattle.crustnewt.specs.Passing.{movedOn}
 use borrow.Author.Needs.{needs}
 use Rattle.crustnewt.proofs.move_on.Statement.{statement}
 use Rattle.crustnewt.proofs.move_on.Tie as tie

@@ -1,6 +1,6 @@
 -- `crustnewt::pass` meets its promise.
 -- Assumes nothing.
-use Rattle.crustnewt.specs.Calls.{passedOn}
+use Rattle.crustnewt.specs.Passing.{passedOn}
 use borrow.Author.Needs.{needs}
 use Rattle.crustnewt.proofs.pass.Statement.{statement}
 use Rattle.crustnewt.proofs.pass.Tie as tie

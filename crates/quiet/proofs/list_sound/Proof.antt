@@ -2,7 +2,7 @@
 -- Assumes nothing.
 use Prim.Native.Nat.{_≤_, _-_}
 use mathlib.Core.Path.{_≡_, refl, sym, ap, _∙_}
-use mathlib.Core.Bool.{Bool, false, _&&_, _||_}
+use mathlib.Core.Bool.{_&&_}
 use mathlib.Core.List.{foldl, map}
 use lib.Dec.{leb}
 use lib.ListN.{length, take, drop, length-map, List·getD-map}
