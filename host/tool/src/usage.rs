@@ -73,8 +73,8 @@ and a closing table.
 One second is 62,500,000 ticks. Ticks in which no timer ends and nothing
 arrives only move counts and timers, so the simulation sets these ahead in one
 go and makes only the other ticks; the timeline is the same with --every-tick,
-which takes about a minute and a half of real time for a second of four boxes,
-and with --plain some fifteen seconds.
+which takes some forty seconds of real time for a second of four boxes, and
+with --plain some six.
 Requests that meet on the fibre don't spoil each other.
 
 Exit status 1 if a half-open pair lasts longer than a frame's longest way and
