@@ -67,18 +67,24 @@ lightWords (Due t entry sync) = phaseWords 5 t (entryWord entry) (sync .0)
 lightWords (Lit t length sync) = phaseWords 6 t (length .0) (sync .0)
 lightWords (Open t) = phaseWords 7 t 0 0
 
+-- the phases of discovery; a word that is no phase's gives a dark one that is never sound
+unfoldable pub discoveryOf : LightWords → Light
+discoveryOf w =
+    let t = timerOf (w .left) in
+    let sync = quantaOf (w .sync) in
+    cond (eqb (w .phase) 1) (Before t (quantaOf (w .grant)) sync)
+    (cond (eqb (w .phase) 2) (Random t sync)
+    (cond (eqb (w .phase) 3) (Warming t)
+    (cond (eqb (w .phase) 4) (Asking t) (Before strange (quantaOf 0) (quantaOf 0)))))
+
 unfoldable pub lightOf : LightWords → Light
 lightOf w =
     let t = timerOf (w .left) in
     let sync = quantaOf (w .sync) in
     cond (eqb (w .phase) 0) Rest
-    (cond (eqb (w .phase) 1) (Before t (quantaOf (w .grant)) sync)
-    (cond (eqb (w .phase) 2) (Random t sync)
-    (cond (eqb (w .phase) 3) (Warming t)
-    (cond (eqb (w .phase) 4) (Asking t)
     (cond (eqb (w .phase) 5) (Due t (entryOf (w .grant)) sync)
     (cond (eqb (w .phase) 6) (Lit t (quantaOf (w .grant)) sync)
-    (cond (eqb (w .phase) 7) (Open t) (Before strange (quantaOf 0) (quantaOf 0)))))))))
+    (cond (eqb (w .phase) 7) (Open t) (discoveryOf w))))
 
 -- the words before the list's grants, in their order
 unfoldable pub frontWords : Front → List ℕ

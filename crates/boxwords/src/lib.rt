@@ -3,7 +3,7 @@ ghost use mathlib.Core.Path.{_≡_};
 ghost use mathlib.Core.Bool.{cond};
 ghost use mathlib.Core.List.{map};
 ghost use lib.ListN.{drop};
-ghost use Rattle.boxwords.specs.Box.{entryWord, entryOf, stateWord, stateOf, waitOf, registrationOf, phaseWords, lightWords, lightOf, listOf, frontWords, frontOf, boxWords, boxOf};
+ghost use Rattle.boxwords.specs.Box.{entryWord, entryOf, stateWord, stateOf, waitOf, registrationOf, phaseWords, lightWords, discoveryOf, lightOf, listOf, frontWords, frontOf, boxWords, boxOf};
 ghost use Rattle.boxwords.specs.Told.{kindWords, noticeWords, toldWords};
 use clock::Count;
 use clock::Quanta;
@@ -188,21 +188,17 @@ fn light_words(light: Light) -> LightWords
     }
 }
 
-// A word that is no phase's gives a dark one that is never sound.
-fn light_of(w: LightWords) -> Light
-    ensures { λ r. ⌜ r ≡ lightOf w ⌝ }
+// The phases of discovery. A word that is no phase's gives a dark one that is never sound.
+fn discovery_of(w: LightWords) -> Light
+    ensures { λ r. ⌜ r ≡ discoveryOf w ⌝ }
 {
     let phase = w.phase;
-    let grant = w.grant;
     let timer = fields::timer_of(w.left);
     let sync = fields::quanta_of(w.sync);
-    if phase == 0 {
-        return Light::Rest;
-    }
     if phase == 1 {
         return Light::Before {
             timer,
-            random: fields::quanta_of(grant),
+            random: fields::quanta_of(w.grant),
             sync,
         };
     }
@@ -214,6 +210,23 @@ fn light_of(w: LightWords) -> Light
     }
     if phase == 4 {
         return Light::Asking { timer };
+    }
+    Light::Before {
+        timer: fields::strange(),
+        random: Quanta(0),
+        sync: Quanta(0),
+    }
+}
+
+fn light_of(w: LightWords) -> Light
+    ensures { λ r. ⌜ r ≡ lightOf w ⌝ }
+{
+    let phase = w.phase;
+    let grant = w.grant;
+    let timer = fields::timer_of(w.left);
+    let sync = fields::quanta_of(w.sync);
+    if phase == 0 {
+        return Light::Rest;
     }
     if phase == 5 {
         return Light::Due {
@@ -232,11 +245,7 @@ fn light_of(w: LightWords) -> Light
     if phase == 7 {
         return Light::Open { timer };
     }
-    Light::Before {
-        timer: fields::strange(),
-        random: Quanta(0),
-        sync: Quanta(0),
-    }
+    discovery_of(w)
 }
 
 pub fn front_words(f: Front) -> [u64; 13]

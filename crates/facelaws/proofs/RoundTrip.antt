@@ -17,7 +17,7 @@ use Rattle.registration.specs.declared.Registration.{Registration}
 use Rattle.registration.specs.declared.State.{State}
 use Rattle.registration.specs.declared.State.the-variants.{Wait, Registering, RegisterReq, Registered}
 use Rattle.words.specs.Words.{narrowed}
-use Rattle.boxwords.specs.Box.{entryWord, entryOf, stateWord, stateOf, waitOf, registrationOf, lightWords, lightOf, frontWords, frontOf, boxWords, boxOf}
+use Rattle.boxwords.specs.Box.{entryWord, entryOf, stateWord, stateOf, waitOf, registrationOf, lightWords, discoveryOf, lightOf, frontWords, frontOf, boxWords, boxOf}
 use Rattle.fields.specs.Fields.{timerOf, quantaOf, shortOf, addressOf}
 
 abbrev pub TimerFits : Timer → Type 0
@@ -94,7 +94,7 @@ port-is : (n : ℕ) → n < 2 ^ 16 → shortOf n ≡ n
 port-is n h = omega arith
 
 light-back : (l : Light) → LightFits l → lightOf (lightWords l) ≡ l
-unfolding lightOf
+unfolding lightOf discoveryOf
 light-back Rest h = refl
 light-back (Before t random sync) h = rw (timer-back t (h .0), quanta-back random (h .1), quanta-back sync (h .2))
 light-back (Random t sync) h = rw (timer-back t (h .0), quanta-back sync (h .1))
