@@ -74,21 +74,13 @@ impl HeadCore for ProvedHead {
     }
 
     fn admit(&mut self, newcomer: &Newcomer) -> core::HeadReply {
-        let Newcomer {
-            address,
-            pending,
-            sync,
-        } = *newcomer;
-        head_reply(self.0.admit(address.0, pending, sync))
+        let n = newcomer;
+        head_reply(self.0.admit(n.address.0, n.pending, n.sync))
     }
 
     fn reject(&mut self, newcomer: &Newcomer) -> core::HeadReply {
-        let Newcomer {
-            address,
-            pending,
-            sync,
-        } = *newcomer;
-        head_reply(self.0.reject(address.0, pending, sync))
+        let n = newcomer;
+        head_reply(self.0.reject(n.address.0, n.pending, n.sync))
     }
 
     fn reregister(&mut self, link: u64, sync: u32) -> core::HeadReply {
