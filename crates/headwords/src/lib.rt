@@ -4,7 +4,7 @@ ghost use Prim.Native.Nat.{_+_, _≤_};
 ghost use mathlib.Core.List.{_++_};
 ghost use lib.ListN.{length, take, drop};
 ghost use Rattle.headwords.specs.Head.{windowWords, windowOf, headWords, headOf, headIn};
-ghost use Rattle.headwords.specs.Table.{stateWord, stateOf, linkWords, linkOf, nobodys, five, linkIn, wordsAt, linksIn, loaded, stored};
+ghost use Rattle.headwords.specs.Table.{stateWord, stateOf, linkWords, linkOf, noLink, five, linkIn, wordsAt, linksIn, loaded, stored};
 ghost use Rattle.headwords.specs.Told.{kindWord, toldWords};
 ghost use Rattle.words.specs.Words.{laid};
 use clock::Timer;
@@ -178,8 +178,8 @@ fn five(w: LinkWords) -> [u64; 5]
 }
 
 // An idle link whose wait runs, and past every setting: sound nowhere.
-fn nobodys() -> Link
-    ensures { λ r. ⌜ r ≡ nobodys ⌝ }
+fn no_link() -> Link
+    ensures { λ r. ⌜ r ≡ noLink ⌝ }
 {
     let off = Timer::stopped();
     Link {
@@ -201,7 +201,7 @@ fn link_in(w: LinkWords) -> Link
     if words::same(&packed, &told) {
         return link;
     }
-    nobodys()
+    no_link()
 }
 
 // The link whose five words begin at a place.
