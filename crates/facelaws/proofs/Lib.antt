@@ -1,6 +1,8 @@
 -- What the C face is worth.
 pub mod Calls
 pub mod HeadCalls
+pub mod HeadFresh
+pub mod HeadStands
 pub mod HeadTrip
 pub mod RoundTrip
 pub mod Write

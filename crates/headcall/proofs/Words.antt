@@ -27,7 +27,7 @@ use Rattle.serving.specs.Serve.{Served, doneOf, serveOf}
 use Rattle.serving.specs.declared.Answer.{Answer}
 use Rattle.words.specs.Laws.{laid-over}
 use Rattle.words.specs.Words.{laid}
-use Rattle.headcall.specs.Calls.{left, begunLeft, Told, told, headAt, isLent, laidHead, keptHead, keptLinks, toldOf, handed, servedOf, refusedOf, heardOf, cleared, begunOf as begun}
+use Rattle.headcall.specs.Calls.{left, begunLeft, Told, told, headAt, isLent, laidHead, keptHead, keptLinks, begunHead, toldOf, handed, servedOf, refusedOf, heardOf, cleared, begunOf as begun}
 use Rattle.headcall.specs.Lend.{Kept, kept, keptOf, LendLeft, lendLeft, lendOf, clearOf}
 
 length-places : (f : ℕ → Link → Link) (k : ℕ) (xs : List Link) → length (places f k xs) ≡ length xs
@@ -104,7 +104,7 @@ served-whole r head links output reply t h n a head′ links′ output′ reply�
 
 pub begun-whole : (o : Address) (head links reply : List ℕ) (t : Bool) (n : ℕ) (a : Answer) (head′ links′ reply′ : List ℕ) (k : ℕ)
     → t ≡ isLent (length head) (length reply) → t ≡ true → n ≡ linksIn (length links)
-    → kept a links′ ≡ clearOf o links n → head′ ≡ laidHead a head → told k reply′ ≡ toldOf a reply
+    → kept a links′ ≡ clearOf o links n → head′ ≡ begunHead a head → told k reply′ ≡ toldOf a reply
     → begunLeft k head′ links′ reply′ ≡ begun o head links reply
 unfolding begun cleared toldOf
 begun-whole o head links reply t n a head′ links′ reply′ k lent taken few said lays tells =
@@ -113,7 +113,7 @@ begun-whole o head links reply t n a head′ links′ reply′ k lent taken few 
     said ∙ ap (λ (y : ℕ). clearOf o links y) few ∙ cleared-is o links in
     ap (λ (u : Told). begunLeft (u .number) head′ links′ (u .reply)) tells
     ∙ ap (λ (us : List ℕ). begunLeft (numberOf (a .reply)) us links′ (laid (toldWords a) reply)) lays
-    ∙ ap (λ (u : Kept). begunLeft (numberOf (u .answer .reply)) (laidHead (u .answer) head) (u .words) (laid (toldWords (u .answer)) reply)) whole
+    ∙ ap (λ (u : Kept). begunLeft (numberOf (u .answer .reply)) (begunHead (u .answer) head) (u .words) (laid (toldWords (u .answer)) reply)) whole
     ∙ ap (λ (b : Bool). cond b (cleared made head links reply) (begunLeft 100 head links reply)) (sym taken ∙ lent)
 
 -- a frame that the reader refused

@@ -10,7 +10,7 @@ use Rattle.frame.specs.Card.{numberOf}
 use Rattle.frame.specs.declared.Address.{Address}
 use Rattle.frame.specs.declared.Reply.{Reply}
 use Rattle.head.specs.declared.Head.{Head}
-use Rattle.headwords.specs.Head.{headWords, headOf}
+use Rattle.headwords.specs.Head.{headWords, headIn}
 use Rattle.headwords.specs.Table.{tableWords, linksAt}
 use Rattle.headwords.specs.Told.{toldWords}
 use Rattle.judging.specs.declared.Request.{Request}
@@ -52,11 +52,11 @@ told n reply = record { number = n; reply = reply }
 
 -- the head that stands in a block
 unfoldable pub headAt : List ℕ → Head
-headAt block = headOf (laid block (replicate 5 0))
+headAt block = headIn (laid block (replicate 5 0))
 
--- 5 words for the head, 4 for what is told
+-- 5 words for the head, 5 for what is told
 unfoldable pub isLent : ℕ → ℕ → Bool
-isLent head reply = leb 5 head && leb 4 reply
+isLent head reply = leb 5 head && leb 5 reply
 
 unfoldable pub laidHead : Answer → List ℕ → List ℕ
 laidHead a head = laid (headWords (a .next)) head
@@ -87,7 +87,7 @@ servedOf r head links output reply =
 -- a refusal of the reader's: nothing is changed, and nothing told
 unfoldable pub refusedOf : Reply → List ℕ → List ℕ → Told
 refusedOf why head reply =
-    cond (isLent (length head) (length reply)) (told (numberOf why) (laid (replicate 4 0) reply)) (told 100 reply)
+    cond (isLent (length head) (length reply)) (told (numberOf why) (laid (replicate 2 0) reply)) (told 100 reply)
 
 -- the octets are read, and the message heard
 unfoldable pub heardOf : ℕ → List ℕ → List ℕ → List ℕ → List ℕ → List ℕ → Left
@@ -97,11 +97,15 @@ heardOf link octets head links output reply =
     cond (eqb (numberOf (r .reply)) 0) (servedOf (Request.Hear link (r .message)) head links output reply)
     (left (no .number) head links output (no .reply))
 
--- the block of a fresh head is written even where it is refused: it then holds address zero
+-- a table of no allowed size leaves the block as it was; a head that is refused for its address holds address zero
+unfoldable pub begunHead : Answer → List ℕ → List ℕ
+begunHead a head = cond (eqb (numberOf (a .reply)) 13) head (laidHead a head)
+
+-- of a fresh head, block and table where it is done, and the block alone where it is refused for its address
 unfoldable pub cleared : Freshly → List ℕ → List ℕ → List ℕ → BegunLeft
 cleared made head links reply =
     let a = made .answer in
-    begunLeft (numberOf (a .reply)) (laidHead a head) (keptLinks a (made .table) links) (laid (toldWords a) reply)
+    begunLeft (numberOf (a .reply)) (begunHead a head) (keptLinks a (made .table) links) (laid (toldWords a) reply)
 
 -- a fresh head over the links in the words
 unfoldable pub begunOf : Address → List ℕ → List ℕ → List ℕ → BegunLeft

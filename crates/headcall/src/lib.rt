@@ -2,7 +2,7 @@
 ghost use mathlib.Core.Path.{_≡_};
 ghost use Prim.Native.Nat.{_≤_};
 ghost use lib.ListN.{getD};
-ghost use Rattle.headcall.specs.Calls.{left, begunLeft, told, headAt, isLent, laidHead, keptHead, toldOf, refusedOf, servedOf, heardOf, begunOf};
+ghost use Rattle.headcall.specs.Calls.{left, begunLeft, told, headAt, isLent, laidHead, keptHead, begunHead, toldOf, refusedOf, servedOf, heardOf, begunOf};
 ghost use Rattle.headcall.specs.Gate.{leaveOf, askedOf};
 ghost use Rattle.headcall.specs.Lend.{kept, keptOf, lendLeft, lendOf, clearOf};
 use clock::Count;
@@ -19,10 +19,13 @@ use serving::Answer;
 // A lent block or slice that is too short: no number of the card.
 const SHORT: u8 = 100;
 
+// A table of no allowed size.
+const UNSOUND: u8 = 13;
+
 // Words of a head, and of what a call of it tells.
 const HEAD: usize = 5;
 
-const REPLY: usize = 4;
+const REPLY: usize = 5;
 
 // A grant is one word: its start in the upper 32 bits, its length below.
 const TURN: u64 = 0x100000000;
@@ -70,7 +73,7 @@ fn load_head(head: &[u64]) -> Head
 {
     let mut w = [0u64; 5];
     words::lay(head, &mut w);
-    headwords::head_of(w)
+    headwords::head_in(w)
 }
 
 fn lay_head(answer: Answer, head: &mut [u64])
@@ -95,8 +98,7 @@ fn keep_head(answer: Answer, head: &mut [u64])
 fn tell(answer: Answer, reply: &mut [u64]) -> u8
     ensures { λ r. ⌜ told r (now (reply .exit)) ≡ toldOf answer (now (reply .entry)) ⌝ }
 {
-    let words = headwords::told(answer);
-    words::lay(&words, reply);
+    headwords::tell(answer, reply);
     let number = answer.reply;
     number.number()
 }
@@ -126,7 +128,7 @@ fn refused(why: Reply, head: &[u64], reply: &mut [u64]) -> u8
     ensures { λ r. ⌜ told r (now (reply .exit)) ≡ refusedOf why (now (head .entry)) (now (reply .entry)) ⌝ }
 {
     if is_lent(head.len(), reply.len()) {
-        let nothing = [0u64; 4];
+        let nothing = [0u64; 2];
         words::lay(&nothing, reply);
         return why.number();
     }
@@ -153,14 +155,25 @@ pub fn heard(
     refused(why, head, reply)
 }
 
-// A head that has not begun, over as many links as the words hold; a refused one holds address zero.
+// A table of no allowed size leaves the block as it was too; a head that is refused for its address holds address zero.
+fn lay_begun(answer: Answer, head: &mut [u64])
+    ensures { λ _. ⌜ now (head .exit) ≡ begunHead answer (now (head .entry)) ⌝ }
+{
+    let reply = answer.reply;
+    if reply.number() == UNSOUND {
+        return;
+    }
+    lay_head(answer, head);
+}
+
+// A head that has not begun, over as many links as the words hold.
 pub fn begun(address: Address, head: &mut [u64], links: &mut [u64], reply: &mut [u64]) -> u8
     ensures { λ r. ⌜ begunLeft r (now (head .exit)) (now (links .exit)) (now (reply .exit)) ≡ begunOf address (now (head .entry)) (now (links .entry)) (now (reply .entry)) ⌝ }
 {
     if is_lent(head.len(), reply.len()) {
         let n = headwords::links_in(links.len());
         let answer = clear(address, links, n);
-        lay_head(answer, head);
+        lay_begun(answer, head);
         return tell(answer, reply);
     }
     SHORT

@@ -13,7 +13,7 @@ use lib.ListN.{length, take, drop, getD, set, replicate, length-append, length-r
 use lib.Seq.{length-take-le, take-suc, append-snoc, set-at, take-at, drop-at, drop-drop, getD-drop, sets-eq}
 use Rattle.links.specs.Link.{idle}
 use Rattle.links.specs.declared.Link.{Link}
-use Rattle.headwords.specs.Table.{linkWords, linkOf, five, wordsAt, tableWords, linksOf, linksIn, loaded}
+use Rattle.headwords.specs.Table.{linkWords, linkIn, five, wordsAt, tableWords, linksOf, linksIn, loaded}
 use Rattle.headwords.specs.declared.LinkWords.{LinkWords}
 
 -- never more than a table, nor more than there are words for
@@ -48,17 +48,17 @@ length-links zero ws = refl
 length-links (suc n) ws = ap suc (length-links n (drop 5 ws))
 
 -- the next link stands behind the five words of each before it
-pub links-more : (n : ℕ) (ws : List ℕ) → linksOf (suc n) ws ≡ linksOf n ws ++ (linkOf (wordsAt (drop (5 * n) ws)) ∷ [])
+pub links-more : (n : ℕ) (ws : List ℕ) → linksOf (suc n) ws ≡ linksOf n ws ++ (linkIn (wordsAt (drop (5 * n) ws)) ∷ [])
 unfolding linksOf
 links-more zero ws = refl
 links-more (suc n) ws =
     let further : 5 + 5 * n ≡ 5 * suc n = omega arith in
-    ap (λ (ls : List Link). linkOf (wordsAt ws) ∷ ls)
+    ap (λ (ls : List Link). linkIn (wordsAt ws) ∷ ls)
     (links-more n (drop 5 ws)
-    ∙ ap (λ (u : List ℕ). linksOf n (drop 5 ws) ++ (linkOf (wordsAt u) ∷ [])) (drop-drop (5 * n) 5 ws ∙ ap (λ (k : ℕ). drop k ws) further))
+    ∙ ap (λ (u : List ℕ). linksOf n (drop 5 ws) ++ (linkIn (wordsAt u) ∷ [])) (drop-drop (5 * n) 5 ws ∙ ap (λ (k : ℕ). drop k ws) further))
 
 -- a turn of the loop that loads them
-pub load-turn : (ws : List ℕ) (i : ℕ) (v : Link) (out : List Link) → i < 64 → v ≡ linkOf (wordsAt (drop (5 * i) ws))
+pub load-turn : (ws : List ℕ) (i : ℕ) (v : Link) (out : List Link) → i < 64 → v ≡ linkIn (wordsAt (drop (5 * i) ws))
     → out ≡ linksOf i ws ++ replicate (64 - i) idle → set out i v ≡ linksOf (i + 1) ws ++ replicate (64 - (i + 1)) idle
 load-turn ws i v out h e p =
     let one : 64 - i ≡ suc (63 - i) = omega arith in

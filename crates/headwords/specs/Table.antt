@@ -1,16 +1,17 @@
--- A table of links as words of 64 bits, five a link, one behind the other: which word holds what, and what links any words tell.
+-- A table of links as words of 64 bits, five a link, one behind the other: which word holds what, and what links any words tell: those that
+-- pack to just these words, or nobody's.
 -- Assumes nothing.
 use Prim.Native.Nat.{ℕ, zero, suc, _*_, _-_, _/_}
-use mathlib.Core.Bool.{cond}
+use mathlib.Core.Bool.{Bool, cond}
 use mathlib.Core.List.{List, [], _∷_, _++_}
-use lib.Dec.{eqb, leb, ltb}
+use lib.Dec.{eqb, leb}
 use lib.ListN.{length, take, drop, getD, replicate}
-use Rattle.clock.specs.declared.Timer.{Timer}
-use Rattle.links.specs.Link.{idle}
+use Rattle.links.specs.Link.{off, idle}
 use Rattle.links.specs.declared.Link.{Link}
 use Rattle.links.specs.declared.State.{State}
 use Rattle.links.specs.declared.State.the-variants.{Idle, Waiting, Registered}
-use Rattle.fields.specs.Fields.{strange, timerOf}
+use Rattle.fields.specs.Fields.{timerOf}
+use Rattle.words.specs.Words.{same}
 use Rattle.headwords.specs.declared.LinkWords.{LinkWords}
 
 abbrev pub stateWord : State → ℕ
@@ -18,12 +19,9 @@ stateWord Idle = 0
 stateWord Waiting = 1
 stateWord Registered = 2
 
+-- a word that is no state's is taken as idle
 unfoldable pub stateOf : ℕ → State
-stateOf w = cond (eqb w 0) Idle (cond (eqb w 1) Waiting Registered)
-
--- a word that is no state's makes the wait strange
-unfoldable pub waitOf : ℕ → ℕ → Timer
-waitOf state wait = cond (ltb 2 state) strange (timerOf wait)
+stateOf w = cond (eqb w 1) Waiting (cond (eqb w 2) Registered Idle)
 
 abbrev pub linkWords : Link → LinkWords
 linkWords l =
@@ -35,12 +33,13 @@ linkWords l =
       periodic = l .periodic .left;
     }
 
+-- what words tell, each field by itself
 abbrev pub linkOf : LinkWords → Link
 linkOf w =
     record {
       address = record { 0 = w .address };
       state = stateOf (w .state);
-      wait = waitOf (w .state) (w .wait);
+      wait = timerOf (w .wait);
       watchdog = timerOf (w .watchdog);
       periodic = timerOf (w .periodic);
     }
@@ -48,6 +47,18 @@ linkOf w =
 -- the words of a link, in their order
 abbrev pub five : LinkWords → List ℕ
 five w = w .address ∷ w .state ∷ w .wait ∷ w .watchdog ∷ w .periodic ∷ []
+
+-- the words are a link's: just those that it packs to
+unfoldable pub isLink : LinkWords → Bool
+isLink w = same (five (linkWords (linkOf w))) (five w)
+
+-- an idle link whose wait runs, and past every setting: sound nowhere
+abbrev pub noLink : Link
+noLink = record { address = record { 0 = 0 }; state = Idle; wait = record { left = 4294967295 }; watchdog = off; periodic = off }
+
+-- the link that words tell; those that are no link's tell one that is sound nowhere
+unfoldable pub linkIn : LinkWords → Link
+linkIn w = cond (isLink w) (linkOf w) noLink
 
 -- the first five of words
 abbrev pub wordsAt : List ℕ → LinkWords
@@ -63,7 +74,7 @@ tableWords (l ∷ ls) = five (linkWords l) ++ tableWords ls
 -- the first n links that words tell
 unfoldable pub linksOf : ℕ → List ℕ → List Link
 linksOf zero ws = []
-linksOf (suc n) ws = linkOf (wordsAt ws) ∷ linksOf n (drop 5 ws)
+linksOf (suc n) ws = linkIn (wordsAt ws) ∷ linksOf n (drop 5 ws)
 
 -- how many links so many words hold; more than a table may have are taken as none
 unfoldable pub linksIn : ℕ → ℕ

@@ -3,10 +3,10 @@ ghost use mathlib.Core.Path.{_≡_};
 ghost use Prim.Native.Nat.{_+_, _≤_};
 ghost use mathlib.Core.List.{_++_};
 ghost use lib.ListN.{length, take, drop};
-ghost use Rattle.headwords.specs.Head.{windowWords, windowOf, headWords, headOf};
-ghost use Rattle.headwords.specs.Table.{stateWord, stateOf, waitOf, linkWords, linkOf, five, wordsAt, linksIn, loaded, stored};
+ghost use Rattle.headwords.specs.Head.{windowWords, windowOf, headWords, headOf, headIn};
+ghost use Rattle.headwords.specs.Table.{stateWord, stateOf, linkWords, linkOf, noLink, five, linkIn, wordsAt, linksIn, loaded, stored};
 ghost use Rattle.headwords.specs.Told.{kindWord, toldWords};
-use clock::Count;
+ghost use Rattle.words.specs.Words.{laid};
 use clock::Timer;
 use frame::Address;
 use head::Head;
@@ -56,16 +56,13 @@ fn window_words(window: Window) -> WindowWords
     }
 }
 
-// A word that is no phase's gives one that is never sound.
+// A word that is no phase's is taken as idle.
 fn window_of(w: WindowWords) -> Window
     ensures { λ r. ⌜ r ≡ windowOf w ⌝ }
 {
     let phase = w.phase;
     let length = w.length;
     let timer = fields::timer_of(w.left);
-    if phase == 0 {
-        return Window::Idle;
-    }
     if phase == 1 {
         return Window::Before {
             timer,
@@ -75,9 +72,7 @@ fn window_of(w: WindowWords) -> Window
     if phase == 2 {
         return Window::Inside { timer };
     }
-    Window::Inside {
-        timer: fields::strange(),
-    }
+    Window::Idle
 }
 
 pub fn pack_head(h: Head) -> [u64; 5]
@@ -96,8 +91,8 @@ pub fn pack_head(h: Head) -> [u64; 5]
     ]
 }
 
-// The head that the words tell. Those that no head packs to give an unsound one.
-pub fn head_of(w: [u64; 5]) -> Head
+// What the words tell, each field by itself.
+fn head_of(w: [u64; 5]) -> Head
     ensures { λ r. ⌜ r ≡ headOf w ⌝ }
 {
     let held = WindowWords {
@@ -106,10 +101,22 @@ pub fn head_of(w: [u64; 5]) -> Head
         length: w[4],
     };
     Head {
-        address: fields::address_of(w[0], w[1]),
-        count: Count(words::narrow(w[1])),
+        address: Address(w[0]),
+        count: fields::count_of(w[1]),
         window: window_of(held),
     }
+}
+
+// The head in the words. Words that no head packs to are nobody's.
+pub fn head_in(w: [u64; 5]) -> Head
+    ensures { λ r. ⌜ r ≡ headIn w ⌝ }
+{
+    let head = head_of(w);
+    let packed = pack_head(head);
+    if words::same(&packed, &w) {
+        return head;
+    }
+    Head::begun(Address(0))
 }
 
 fn state_word(state: State) -> u64
@@ -125,23 +132,13 @@ fn state_word(state: State) -> u64
 fn state_of(word: u64) -> State
     ensures { λ r. ⌜ r ≡ stateOf word ⌝ }
 {
-    if word == 0 {
-        return State::Idle;
-    }
     if word == 1 {
         return State::Waiting;
     }
-    State::Registered
-}
-
-// The wait of a link; a word that is no state's makes it unsound, as a registered link doesn't wait.
-fn wait_of(state: u64, wait: u64) -> Timer
-    ensures { λ r. ⌜ r ≡ waitOf state wait ⌝ }
-{
-    if 2 < state {
-        return fields::strange();
+    if word == 2 {
+        return State::Registered;
     }
-    fields::timer_of(wait)
+    State::Idle
 }
 
 fn link_words(l: Link) -> LinkWords
@@ -161,23 +158,56 @@ fn link_words(l: Link) -> LinkWords
     }
 }
 
+// What the words tell, each field by itself.
 fn link_of(w: LinkWords) -> Link
     ensures { λ r. ⌜ r ≡ linkOf w ⌝ }
 {
-    let state = w.state;
     Link {
         address: Address(w.address),
-        state: state_of(state),
-        wait: wait_of(state, w.wait),
+        state: state_of(w.state),
+        wait: fields::timer_of(w.wait),
         watchdog: fields::timer_of(w.watchdog),
         periodic: fields::timer_of(w.periodic),
     }
 }
 
+fn five(w: LinkWords) -> [u64; 5]
+    ensures { λ r. ⌜ r ≡ five w ⌝ }
+{
+    [w.address, w.state, w.wait, w.watchdog, w.periodic]
+}
+
+// An idle link whose wait runs, and past every setting: sound nowhere.
+fn no_link() -> Link
+    ensures { λ r. ⌜ r ≡ noLink ⌝ }
+{
+    let off = Timer::stopped();
+    Link {
+        address: Address(0),
+        state: State::Idle,
+        wait: Timer { left: 0xFFFFFFFF },
+        watchdog: off,
+        periodic: off,
+    }
+}
+
+// The link in the words. Words that no link packs to are nobody's.
+fn link_in(w: LinkWords) -> Link
+    ensures { λ r. ⌜ r ≡ linkIn w ⌝ }
+{
+    let link = link_of(w);
+    let packed = five(link_words(link));
+    let told = five(w);
+    if words::same(&packed, &told) {
+        return link;
+    }
+    no_link()
+}
+
 // The link whose five words begin at a place.
 fn link_at(words: &[u64], at: usize) -> Link
     requires { ⌜ at + 5 ≤ length (now words) ⌝ }
-    ensures { λ r. ⌜ r ≡ linkOf (wordsAt (drop at (now (words .entry)))) ⌝ }
+    ensures { λ r. ⌜ r ≡ linkIn (wordsAt (drop at (now (words .entry)))) ⌝ }
 {
     let w = LinkWords {
         address: words[at],
@@ -186,7 +216,7 @@ fn link_at(words: &[u64], at: usize) -> Link
         watchdog: words[at + 3],
         periodic: words[at + 4],
     };
-    link_of(w)
+    link_in(w)
 }
 
 fn put_link(l: Link, words: &mut [u64], at: usize)
@@ -252,17 +282,20 @@ fn kind_word(kind: Kind) -> u64
     }
 }
 
-// What a call tells: how many frames, and the notice's kind, link and round trip.
-pub fn told(answer: Answer) -> [u64; 4]
-    ensures { λ r. ⌜ r ≡ toldWords answer ⌝ }
+// Tells how many frames there are, how many notices, and the notice's kind, link and round trip; without a notice its words stay.
+pub fn tell(answer: Answer, reply: &mut [u64])
+    ensures { λ _. ⌜ now (reply .exit) ≡ laid (toldWords answer) (now (reply .entry)) ⌝ }
 {
     let notice = answer.notice;
     let kind = notice.kind;
     let trip = notice.trip;
-    [
-        answer.frames as u64,
-        kind_word(kind),
-        notice.link as u64,
-        trip.0 as u64,
-    ]
+    let frames = answer.frames as u64;
+    let word = kind_word(kind);
+    if word == 0 {
+        let quiet = [frames, 0];
+        words::lay(&quiet, reply);
+        return;
+    }
+    let words = [frames, 1, word, notice.link as u64, trip.0 as u64];
+    words::lay(&words, reply);
 }

@@ -16,8 +16,8 @@ links-in-requires c κs = search needs
 clear-requires : tie.Need-clear-requires
 clear-requires c κs = rw (c .before .links-in .ensures) (links-few _ .0)
 
-lay-head-requires : tie.Need-lay-head-requires
-lay-head-requires c κs = search needs
+lay-begun-requires : tie.Need-lay-begun-requires
+lay-begun-requires c κs = search needs
 
 tell-requires : tie.Need-tell-requires
 tell-requires c κs = search needs
@@ -39,7 +39,7 @@ returns c =
     (c .before .before .before .before .before .before .before .before .before .before .before .before .before .if1 .taken)
     (c .before .before .before .before .before .before .before .before .before .before .before .before .links-in .ensures)
     (c .before .before .before .before .before .before .before .before .before .before .clear .ensures)
-    (c .before .before .before .before .before .before .lay-head .ensures)
+    (c .before .before .before .before .before .before .lay-begun .ensures)
     (c .before .before .tell .ensures)
 
 returns-2 : tie.Need-returns-2
@@ -53,7 +53,7 @@ begun-spec =
     is-lent-requires
     links-in-requires
     clear-requires
-    lay-head-requires
+    lay-begun-requires
     tell-requires
     same-length
     same-length-2

@@ -11,12 +11,12 @@ slice-aggregate-lay c = search needs
 lay-requires : tie.Need-lay-requires
 lay-requires c κs = search needs
 
-head-of-requires : tie.Need-head-of-requires
-head-of-requires c κs = search needs
+head-in-requires : tie.Need-head-in-requires
+head-in-requires c κs = search needs
 
 returns : tie.Need-returns
 unfolding headAt
-returns c = rw (c .head-of .ensures, c .before .before .lay .ensures)
+returns c = rw (c .head-in .ensures, c .before .before .lay .ensures)
 
 pub load-head-spec : {M : Type 1} → statement M
-load-head-spec = tie.close (tie.spec slice-aggregate-lay lay-requires head-of-requires returns)
+load-head-spec = tie.close (tie.spec slice-aggregate-lay lay-requires head-in-requires returns)

@@ -5,14 +5,8 @@ use borrow.Author.Needs.{needs}
 use Rattle.headcall.proofs.tell.Statement.{statement}
 use Rattle.headcall.proofs.tell.Tie as tie
 
-told-requires : tie.Need-told-requires
-told-requires c κs = search needs
-
-slice-aggregate-lay : tie.Need-slice-aggregate-lay
-slice-aggregate-lay c = search needs
-
-lay-requires : tie.Need-lay-requires
-lay-requires c κs = search needs
+tell-requires : tie.Need-tell-requires
+tell-requires c κs = search needs
 
 number-requires : tie.Need-number-requires
 number-requires c κs = search needs
@@ -22,9 +16,7 @@ same-length c = search needs
 
 returns : tie.Need-returns
 unfolding toldOf
-returns c = rw (c .number .ensures, c .before .before .before .lay .ensures, c .before .before .before .before .before .before .told .ensures)
+returns c = rw (c .number .ensures, c .before .before .before .tell .ensures)
 
 pub tell-spec : {M : Type 1} → statement M
-tell-spec =
-    tie.close
-    (tie.spec told-requires slice-aggregate-lay lay-requires number-requires same-length returns)
+tell-spec = tie.close (tie.spec tell-requires number-requires same-length returns)

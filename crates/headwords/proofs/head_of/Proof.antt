@@ -5,48 +5,40 @@ use borrow.Author.Needs.{needs}
 use Rattle.headwords.proofs.head_of.Statement.{statement}
 use Rattle.headwords.proofs.head_of.Tie as tie
 
-array-read-address-of : tie.Need-array-read-address-of
-array-read-address-of c = search needs
+array-read-t6 : tie.Need-array-read-t6
+array-read-t6 c = search needs
 
-array-read-narrow : tie.Need-array-read-narrow
-array-read-narrow c = search needs
+array-read-t9 : tie.Need-array-read-t9
+array-read-t9 c = search needs
 
-array-read-address-of-2 : tie.Need-array-read-address-of-2
-array-read-address-of-2 c = search needs
+array-read-count-of : tie.Need-array-read-count-of
+array-read-count-of c = search needs
 
-array-read-address-of-3 : tie.Need-array-read-address-of-3
-array-read-address-of-3 c = search needs
+array-read-t6-2 : tie.Need-array-read-t6-2
+array-read-t6-2 c = search needs
 
-array-read-address-of-4 : tie.Need-array-read-address-of-4
-array-read-address-of-4 c = search needs
+array-read-count-of-2 : tie.Need-array-read-count-of-2
+array-read-count-of-2 c = search needs
 
-address-of-requires : tie.Need-address-of-requires
-address-of-requires c κs = search needs
-
-array-read-narrow-2 : tie.Need-array-read-narrow-2
-array-read-narrow-2 c = search needs
-
-narrow-requires : tie.Need-narrow-requires
-narrow-requires c κs = search needs
+count-of-requires : tie.Need-count-of-requires
+count-of-requires c κs = search needs
 
 window-of-requires : tie.Need-window-of-requires
 window-of-requires c κs = search needs
 
 returns : tie.Need-returns
 unfolding headOf
-returns c = rw (c .window-of .ensures, c .before .narrow .ensures, c .before .before .address-of .ensures)
+returns c = rw (c .window-of .ensures, c .before .count-of .ensures)
 
 pub head-of-spec : {M : Type 1} → statement M
 head-of-spec =
     tie.close
     (tie.spec
-    array-read-address-of
-    array-read-narrow
-    array-read-address-of-2
-    array-read-address-of-3
-    array-read-address-of-4
-    address-of-requires
-    array-read-narrow-2
-    narrow-requires
+    array-read-t6
+    array-read-t9
+    array-read-count-of
+    array-read-t6-2
+    array-read-count-of-2
+    count-of-requires
     window-of-requires
     returns)

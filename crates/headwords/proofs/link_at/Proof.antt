@@ -1,7 +1,7 @@
 -- `headwords::link_at` meets its promise.
 -- Assumes nothing.
 use mathlib.Core.Path.{_∙_, sym, ap}
-use Rattle.headwords.specs.Table.{linkOf}
+use Rattle.headwords.specs.Table.{linkIn}
 use Rattle.headwords.specs.Laws.{words-there}
 use borrow.Author.Needs.{needs}
 use Rattle.headwords.proofs.link_at.Statement.{statement}
@@ -49,13 +49,13 @@ mul-t20 c = search needs
 shared-slice-read-t22 : tie.Need-shared-slice-read-t22
 shared-slice-read-t22 c = search needs
 
-link-of-requires : tie.Need-link-of-requires
-link-of-requires c κs = search needs
+link-in-requires : tie.Need-link-in-requires
+link-in-requires c κs = search needs
 
 returns : tie.Need-returns
 returns c =
     let a = c .before .before .before .before .before .before .before .args in
-    c .link-of .ensures ∙ ap linkOf (sym (words-there (a .words .now) (a .at)))
+    c .link-in .ensures ∙ ap linkIn (sym (words-there (a .words .now) (a .at)))
 
 pub link-at-spec : {M : Type 1} → statement M
 link-at-spec =
@@ -75,5 +75,5 @@ link-at-spec =
     add-t19
     mul-t20
     shared-slice-read-t22
-    link-of-requires
+    link-in-requires
     returns)
