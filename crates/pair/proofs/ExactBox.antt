@@ -7,9 +7,9 @@ use native.Mathlib.Omega.{arith}
 use Rattle.frame.specs.declared.Address.{Address}
 use Rattle.range.specs.Fits.{isIndividual}
 use Rattle.floorbox.specs.Hear.{hearOf}
+use Rattle.pairlaw.specs.Run.{BoxDrops}
 use Rattle.boxend.specs.End.{BoxEnd}
 use Rattle.pair.specs.Ends.{Ends, ends}
-use Rattle.pair.specs.Exact.{BoxDrops}
 use Rattle.pair.proofs.Alike.{floor-alike}
 use Rattle.pair.proofs.Lingers.{Silent, Lingers, Echoes, lingers, echoes}
 use Rattle.pair.proofs.Pairs.{Dropped, to-dropped}
@@ -33,7 +33,7 @@ module _ (A : Address) (i : isIndividual A ≡ true) (D : ℕ) where
       next HE BE D P D 62_499_999 (Echoes A i hearOf floor-alike D 0) R (echoes A i hearOf floor-alike D m q)
       (λ y e. lingers A i hearOf floor-alike D 62_499_999 y (e .full))
 
-  pub exact-box-drops : ¬ BoxDrops A D (D + 62_499_999)
+  pub exact-box-drops : ¬ BoxDrops HE BE D (D + 62_499_999)
   exact-box-drops f =
       let fresh = start-fresh A i hearOf floor-alike D in
       let x = shown HE BE D fresh 32 (D + 62_499_999) P Q R (to-dropped A i hearOf floor-alike D) stays in

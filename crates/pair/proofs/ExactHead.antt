@@ -16,7 +16,7 @@ use Rattle.floorbox.specs.declared.FloorBox.{FloorBox}
 use Rattle.heeding.specs.Hear.{isFor}
 use Rattle.boxlaws.specs.Calls.{deregister as leaving}
 use Rattle.boxlaws.specs.Sound.{sound-test}
-use Rattle.pairlaw.specs.Run.{HasRegistered, Event, head-hears, box-call, both-tick, after, Allowed}
+use Rattle.pairlaw.specs.Run.{HeadDrops, HasRegistered, Event, head-hears, box-call, both-tick, after, Allowed}
 use Rattle.boxend.specs.End.{deregister, asked, stateOf, BoxEnd}
 use Rattle.boxend.proofs.Calls.{next-registration}
 use Rattle.boxend.proofs.Exact as boxes
@@ -28,7 +28,6 @@ use Rattle.headend.proofs.Exact.{RegisteredFor, ready-tick, registered-ticks}
 use Rattle.headend.proofs.Heard.{group-for, report-restarts}
 use Rattle.headend.proofs.Ready.{Ready}
 use Rattle.pair.specs.Ends.{Ends, ends}
-use Rattle.pair.specs.Exact.{HeadDrops}
 use Rattle.pair.proofs.Alike.{floor-alike}
 use Rattle.pair.proofs.Messages.{IsReport}
 use Rattle.pair.proofs.OnWay.{OnWay, stays-on, ticks-on}
@@ -118,7 +117,7 @@ module _ (A : Address) (i : isIndividual A ≡ true) (D : ℕ) where
       next HE BE D Out D 62_499_999 (Echoes 0) (Lingers 0) (again HE BE D Out Echoes (λ k y v. v .full .none) echoes-on D m e)
       (λ y v. again HE BE D Out Lingers (λ k z w. w .none) lingers-on 62_499_999 y (v .full))
 
-  pub exact-head-drops : ¬ HeadDrops A D (D + 62_499_999)
+  pub exact-head-drops : ¬ HeadDrops HE BE D (D + 62_499_999)
   exact-head-drops f =
       let fresh = start-fresh A i hearOf floor-alike D in
       let way = next HE BE D (Any HE BE D) 32 0 (Paired A i hearOf floor-alike D) (Echoes D) (to-pair A i hearOf floor-alike D) left in

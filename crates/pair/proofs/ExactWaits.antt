@@ -8,7 +8,7 @@ use Rattle.frame.specs.declared.Address.{Address}
 use Rattle.range.specs.Fits.{isIndividual}
 use Rattle.head.specs.Head.{begun}
 use Rattle.floorbox.specs.Hear.{hearOf}
-use Rattle.pairlaw.specs.Run.{head-call, both-tick}
+use Rattle.pairlaw.specs.Run.{BoxWaits, HeadWaits, head-call, both-tick}
 use Rattle.boxend.specs.End.{BoxEnd}
 use Rattle.boxend.proofs.Exact.{AskingFor, tick-done, asking-tick}
 use Rattle.boxend.proofs.Gauge.{Ok}
@@ -17,7 +17,6 @@ use Rattle.headend.specs.End.{linkAt, asks}
 use Rattle.headend.proofs.Exact.{WaitingFor, ready-tick, waiting-ticks}
 use Rattle.headend.proofs.Ready.{Ready}
 use Rattle.pair.specs.Ends.{Ends, ends}
-use Rattle.pair.specs.Exact.{BoxWaits, HeadWaits}
 use Rattle.pair.proofs.Alike.{floor-alike}
 use Rattle.pair.proofs.Asking.{at-fresh}
 use Rattle.pair.proofs.Offering.{Waits, admit, admits}
@@ -48,7 +47,7 @@ module _ (A : Address) (i : isIndividual A ≡ true) (D : ℕ) where
   asking : (m : M) → Asks A i hearOf floor-alike D m → Reach HE BE D Asking m 3_124_999 (AsksFor 0)
   asking m w = again HE BE D Asking AsksFor (λ k y v. v .1 .state) asks-on 3_124_999 m (w .0 .quiet .ready, w .1)
 
-  pub exact-box-wait : ¬ BoxWaits A D 3_124_999
+  pub exact-box-wait : ¬ BoxWaits HE BE D 3_124_999
   exact-box-wait f =
       let fresh = start-fresh A i hearOf floor-alike D in
       let x = shown HE BE D fresh 32 3_124_999 Asking (Asks A i hearOf floor-alike D) (AsksFor 0) (to-asks A i hearOf floor-alike D) asking in
@@ -80,7 +79,7 @@ module _ (A : Address) (i : isIndividual A ≡ true) (D : ℕ) where
   waiting : (m : M) → Admitted m → Reach HE BE D Waiting m 3_124_999 (WaitsFor 0)
   waiting m w = again HE BE D Waiting WaitsFor (λ k y v. v .1 .0) waits-on 3_124_999 m (w .0 .ready, w .0 .link, w .1)
 
-  pub exact-head-wait : ¬ HeadWaits A D 3_124_999
+  pub exact-head-wait : ¬ HeadWaits HE BE D 3_124_999
   exact-head-wait f =
       let fresh = start-fresh A i hearOf floor-alike D in
       let x = shown HE BE D fresh 0 3_124_999 Waiting Admitted (WaitsFor 0) admitting waiting in
