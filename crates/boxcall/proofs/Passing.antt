@@ -1,24 +1,22 @@
 -- A quiet tick, and what it leaves in the caller's memory, is the tick of the box in the block.
 -- Assumes nothing.
-use Prim.Native.Nat.{ℕ, zero, suc, _+_, _≤_}
+use Prim.Native.Nat.{ℕ, zero, suc, _≤_}
 use mathlib.Core.Path.{_≡_, refl, sym, ap, _∙_}
-use mathlib.Core.Bool.{Bool, true, false}
+use mathlib.Core.Bool.{true}
 use mathlib.Core.List.{List, [], _∷_, _++_, map, append-assoc}
 use native.Mathlib.Omega.{arith}
-use lib.IntN.{pos}
 use lib.ListN.{length, take, drop, replicate, length-append, length-take, length-drop, take-append-drop}
-use Rattle.boxwords.specs.Box.{entryWord, entryOf, frontWords, frontOf, boxed, boxWords, boxOf}
-use Rattle.boxwords.specs.Told.{toldWords}
+use Rattle.boxwords.specs.Box.{entryWord, entryOf, frontWords, frontOf, boxed, boxWords}
+use Rattle.boxwords.specs.Told.{listed, toldWords}
 use Rattle.boxwords.specs.declared.Front.{Front}
 use Rattle.floorbox.specs.Box.{tickOf}
-use Rattle.quiet.specs.Quiet.{later, activates, tickOf as quietTick}
+use Rattle.quiet.specs.Quiet.{later, tickOf as quietTick}
 use Rattle.quiet.specs.declared.Passed.{Passed as Ticked}
-use Rattle.quiet.proofs.Passes.{entriesLeft, passes}
-use Rattle.telling.specs.Told.{noNotices}
+use Rattle.quiet.proofs.Passes.{passes}
 use Rattle.words.specs.Laws.{laid-over, laid-whole}
 use Rattle.words.specs.Words.{laid}
-use Rattle.crustnewt.specs.Calls.{left, wordsAt, boxAt, toldOf, handed, settled}
-use Rattle.crustnewt.specs.Passing.{Passed, movedOn, passed, passedOn}
+use Rattle.boxcall.specs.Calls.{left, wordsAt, boxAt, toldOf, handed, settled}
+use Rattle.boxcall.specs.Passing.{Passed, passed, passedOn}
 
 -- a grant's word is what it was
 word-again : (w : ℕ) → entryWord (entryOf w) ≡ w
@@ -39,10 +37,6 @@ thirteen : (n : Front) → length (frontWords n) ≡ 13
 unfolding frontWords
 thirteen n = refl
 
-cleared : (n : Front) → boxWords (boxed n (replicate 16 (entryOf 0))) ≡ laid (frontWords n) (replicate 29 0)
-unfolding boxWords laid frontWords
-cleared n = refl
-
 module _ (block : List ℕ) (h : 29 ≤ length block) where
   whole : wordsAt block ≡ take 29 block
   unfolding wordsAt
@@ -58,29 +52,21 @@ module _ (block : List ℕ) (h : 29 ≤ length block) where
       let all : length (f ++ rest) ≡ 29 = length-append f rest ∙ omega (arith, long, thirteen n) in
       rw (whole, words-again rest, laid-over (f ++ rest) block (omega (arith, all, h)), all, laid-over f block (omega (arith, thirteen n, h)), thirteen n, append-assoc f rest (drop 29 block), seam 13 29 block (omega arith))
 
-  moved : (n : Front) → laid (boxWords (boxed n (entriesLeft n (map entryOf (drop 13 (wordsAt block)))))) block ≡ movedOn n block
-  unfolding movedOn
-  moved n = split (activates n) refl
-    where
-      split : (t : Bool) → activates n ≡ t
-          → laid (boxWords (boxed n (entriesLeft n (map entryOf (drop 13 (wordsAt block)))))) block ≡ movedOn n block
-      split true e = rw e (ap (λ (w : List ℕ). laid w block) (cleared n))
-      split false e = rw e (stays n)
+  long : length (wordsAt block) ≡ 29
+  long = rw whole (simp length-take (omega (arith, h)))
 
-  quiet-call : (frames reply : List ℕ) → quietTick (frontOf (wordsAt block)) (drop 13 (wordsAt block)) .quiet ≡ true
+  quiet-call : (frames reply : List ℕ) → quietTick (wordsAt block) .quiet ≡ true
       → settled (tickOf (boxAt block)) block frames reply
-      ≡ left 0 (movedOn (quietTick (frontOf (wordsAt block)) (drop 13 (wordsAt block)) .next) block) frames (laid (toldWords (pos 0) 0 noNotices) reply)
-  unfolding boxAt boxOf settled handed toldOf quietTick
-  quiet-call frames reply q =
-      rw (passes (frontOf (wordsAt block)) (drop 13 (wordsAt block)) q, moved (later (frontOf (wordsAt block))))
+      ≡ left 0 (laid (frontWords (quietTick (wordsAt block) .next)) block) frames (laid (0 ∷ 0 ∷ 0 ∷ []) reply)
+  unfolding boxAt settled handed toldOf toldWords listed quietTick
+  quiet-call frames reply q = rw (passes (wordsAt block) long q, stays (later (frontOf (wordsAt block))))
 
 -- the theorem, by what each step of the call left
-pub quiet-left : (t : Ticked) (f : Front) (e w block frames reply b r : List ℕ) → w ≡ wordsAt block → f ≡ frontOf w → e ≡ drop 13 w
-    → t ≡ quietTick f e → t .quiet ≡ true → passed b r ≡ passedOn (t .next) block reply → 29 ≤ length block
+pub quiet-left : (t : Ticked) (w block frames reply b r : List ℕ) → w ≡ wordsAt block → t ≡ quietTick w → t .quiet ≡ true
+    → passed b r ≡ passedOn (t .next) block reply → 29 ≤ length block
     → left 0 b frames r ≡ settled (tickOf (boxAt block)) block frames reply
 unfolding passedOn
-quiet-left t f e w block frames reply b r ew ef ee et q p h =
-    let is : t ≡ quietTick (frontOf (wordsAt block)) (drop 13 (wordsAt block)) =
-    et ∙ ap (λ (x : Front). quietTick x e) (ef ∙ ap frontOf ew) ∙ ap (quietTick (frontOf (wordsAt block))) (ee ∙ ap (drop 13) ew) in
+quiet-left t w block frames reply b r ew et q p h =
+    let is : t ≡ quietTick (wordsAt block) = et ∙ ap quietTick ew in
     ap (λ (x : Passed). left 0 (x .block) frames (x .reply)) (p ∙ ap (λ (y : Ticked). passedOn (y .next) block reply) is)
     ∙ sym (quiet-call block h frames reply (sym (ap (λ (y : Ticked). y .quiet) is) ∙ q))

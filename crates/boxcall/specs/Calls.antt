@@ -6,7 +6,7 @@ use mathlib.Core.List.{List, _++_}
 use denote.Ref.{RefT}
 use lib.Dec.{eqb, leb, ltb}
 use lib.ListN.{length, drop, replicate}
-use Rattle.boxwords.specs.Box.{boxWords, boxOf}
+use Rattle.boxwords.specs.Box.{boxWords, boxIn}
 use Rattle.boxwords.specs.Told.{toldWords}
 use Rattle.floorbox.specs.Answer.{refused}
 use Rattle.floorbox.specs.Box.{freshOf}
@@ -43,11 +43,11 @@ unfoldable pub wordsAt : List ℕ → List ℕ
 wordsAt block = laid block (replicate 29 0)
 
 unfoldable pub boxAt : List ℕ → FloorBox
-boxAt block = boxOf (wordsAt block)
+boxAt block = boxIn (wordsAt block)
 
--- 29 words for the box, 120 octets for two frames, 18 words for what is told
+-- 29 words for the box, 120 octets for two frames, 19 words for what is told with four notices
 unfoldable pub isLent : ℕ → ℕ → ℕ → Bool
-isLent block frames reply = leb 29 block && leb 120 frames && leb 18 reply
+isLent block frames reply = leb 29 block && leb 120 frames && leb 19 reply
 
 -- the octets are read, and the message heard
 unfoldable pub heardOf : List ℕ → ℕ → FloorBox → Answer

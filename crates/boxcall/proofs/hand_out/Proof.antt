@@ -1,10 +1,10 @@
--- `crustnewt::hand_out` meets its promise.
+-- `boxcall::hand_out` meets its promise.
 -- Assumes nothing.
 use mathlib.Core.Path.{ap}
-use Rattle.crustnewt.specs.Calls.{with, handed}
+use Rattle.boxcall.specs.Calls.{with, handed}
 use borrow.Author.Needs.{needs}
-use Rattle.crustnewt.proofs.hand_out.Statement.{statement}
-use Rattle.crustnewt.proofs.hand_out.Tie as tie
+use Rattle.boxcall.proofs.hand_out.Statement.{statement}
+use Rattle.boxcall.proofs.hand_out.Tie as tie
 
 keep-requires : tie.Need-keep-requires
 keep-requires c κs = search needs

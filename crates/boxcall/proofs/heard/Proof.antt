@@ -1,10 +1,10 @@
--- `crustnewt::heard` meets its promise.
+-- `boxcall::heard` meets its promise.
 -- Assumes nothing.
 use borrow.Author.Tests.{eq-eqb, ne-eqb}
-use Rattle.crustnewt.specs.Calls.{heardOf}
+use Rattle.boxcall.specs.Calls.{heardOf}
 use borrow.Author.Needs.{needs}
-use Rattle.crustnewt.proofs.heard.Statement.{statement}
-use Rattle.crustnewt.proofs.heard.Tie as tie
+use Rattle.boxcall.proofs.heard.Statement.{statement}
+use Rattle.boxcall.proofs.heard.Tie as tie
 
 read-requires : tie.Need-read-requires
 read-requires c κs = search needs

@@ -1,9 +1,9 @@
--- `crustnewt::is_lent` meets its promise.
+-- `boxcall::is_lent` meets its promise.
 -- Assumes nothing.
 use mathlib.Core.Path.{refl}
-use Rattle.crustnewt.specs.Calls.{isLent}
-use Rattle.crustnewt.proofs.is_lent.Statement.{statement}
-use Rattle.crustnewt.proofs.is_lent.Tie as tie
+use Rattle.boxcall.specs.Calls.{isLent}
+use Rattle.boxcall.proofs.is_lent.Statement.{statement}
+use Rattle.boxcall.proofs.is_lent.Tie as tie
 
 returns : tie.Need-returns
 unfolding isLent

@@ -1,8 +1,8 @@
--- `crustnewt::keep` meets its promise.
+-- `boxcall::keep` meets its promise.
 -- Assumes nothing.
 use borrow.Author.Needs.{needs}
-use Rattle.crustnewt.proofs.keep.Statement.{statement}
-use Rattle.crustnewt.proofs.keep.Tie as tie
+use Rattle.boxcall.proofs.keep.Statement.{statement}
+use Rattle.boxcall.proofs.keep.Tie as tie
 
 pack-requires : tie.Need-pack-requires
 pack-requires c κs = search needs

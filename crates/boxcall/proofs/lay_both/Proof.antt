@@ -1,4 +1,4 @@
--- `crustnewt::lay_both` meets its promise.
+-- `boxcall::lay_both` meets its promise.
 -- Assumes nothing.
 use Prim.Native.Nat.{ℕ, _+_, _-_, _≤_}
 use mathlib.Core.Path.{_≡_, sym, ap, _∙_}
@@ -7,9 +7,9 @@ use native.Mathlib.Omega.{arith}
 use lib.ListN.{length, take, drop, length-append, length-take, length-drop, take-append-drop}
 use lib.Seq.{take-length, take-at, drop-at, drop-append-le, drop-drop}
 use borrow.Author.Needs.{needs}
-use Rattle.crustnewt.proofs.Laid.{copied}
-use Rattle.crustnewt.proofs.lay_both.Statement.{statement}
-use Rattle.crustnewt.proofs.lay_both.Tie as tie
+use Rattle.boxcall.proofs.Laid.{copied}
+use Rattle.boxcall.proofs.lay_both.Statement.{statement}
+use Rattle.boxcall.proofs.lay_both.Tie as tie
 
 -- x is f with a copied over its beginning; y, what is behind with b copied over its beginning, goes back there
 two : (n : ℕ) (a b f x y : List ℕ) → x ≡ take (length a) a ++ drop (length a) f

@@ -1,9 +1,9 @@
--- `crustnewt::lay_frames` meets its promise.
+-- `boxcall::lay_frames` meets its promise.
 -- Assumes nothing.
 use borrow.Author.Tests.{eq-eqb, ne-eqb}
 use borrow.Author.Needs.{needs}
-use Rattle.crustnewt.proofs.lay_frames.Statement.{statement}
-use Rattle.crustnewt.proofs.lay_frames.Tie as tie
+use Rattle.boxcall.proofs.lay_frames.Statement.{statement}
+use Rattle.boxcall.proofs.lay_frames.Tie as tie
 
 returns : tie.Need-returns
 returns c = rw (eq-eqb _ _ (c .if1 .taken))

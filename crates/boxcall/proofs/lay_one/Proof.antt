@@ -1,10 +1,10 @@
--- `crustnewt::lay_one` meets its promise.
+-- `boxcall::lay_one` meets its promise.
 -- Assumes nothing.
 use native.Mathlib.Omega.{arith}
 use borrow.Author.Needs.{needs}
-use Rattle.crustnewt.proofs.Laid.{copied}
-use Rattle.crustnewt.proofs.lay_one.Statement.{statement}
-use Rattle.crustnewt.proofs.lay_one.Tie as tie
+use Rattle.boxcall.proofs.Laid.{copied}
+use Rattle.boxcall.proofs.lay_one.Statement.{statement}
+use Rattle.boxcall.proofs.lay_one.Tie as tie
 
 slice-aggregate-copy : tie.Need-slice-aggregate-copy
 slice-aggregate-copy c = search needs

@@ -1,9 +1,9 @@
--- `crustnewt::load` meets its promise.
+-- `boxcall::load` meets its promise.
 -- Assumes nothing.
-use Rattle.crustnewt.specs.Calls.{boxAt}
+use Rattle.boxcall.specs.Calls.{boxAt}
 use borrow.Author.Needs.{needs}
-use Rattle.crustnewt.proofs.load.Statement.{statement}
-use Rattle.crustnewt.proofs.load.Tie as tie
+use Rattle.boxcall.proofs.load.Statement.{statement}
+use Rattle.boxcall.proofs.load.Tie as tie
 
 words-in-requires : tie.Need-words-in-requires
 words-in-requires c κs = search needs

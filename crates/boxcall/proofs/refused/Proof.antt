@@ -1,8 +1,8 @@
--- `crustnewt::refused` meets its promise.
+-- `boxcall::refused` meets its promise.
 -- Assumes nothing.
 use borrow.Author.Needs.{needs}
-use Rattle.crustnewt.proofs.refused.Statement.{statement}
-use Rattle.crustnewt.proofs.refused.Tie as tie
+use Rattle.boxcall.proofs.refused.Statement.{statement}
+use Rattle.boxcall.proofs.refused.Tie as tie
 
 none-requires : tie.Need-none-requires
 none-requires c κs = search needs

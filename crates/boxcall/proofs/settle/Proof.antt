@@ -1,11 +1,11 @@
--- `crustnewt::settle` meets its promise.
+-- `boxcall::settle` meets its promise.
 -- Assumes nothing.
 use mathlib.Core.Path.{ap}
 use borrow.Author.Tests.{eq-eqb, ne-eqb}
-use Rattle.crustnewt.specs.Calls.{with, settled}
+use Rattle.boxcall.specs.Calls.{with, settled}
 use borrow.Author.Needs.{needs}
-use Rattle.crustnewt.proofs.settle.Statement.{statement}
-use Rattle.crustnewt.proofs.settle.Tie as tie
+use Rattle.boxcall.proofs.settle.Statement.{statement}
+use Rattle.boxcall.proofs.settle.Tie as tie
 
 number-requires : tie.Need-number-requires
 number-requires c κs = search needs

@@ -1,11 +1,11 @@
--- `crustnewt::tell` meets its promise.
+-- `boxcall::tell` meets its promise.
 -- Assumes nothing.
-use Rattle.crustnewt.specs.Calls.{toldOf}
+use Rattle.boxcall.specs.Calls.{toldOf}
 use mir.Syntax.{w64}
 use mir.ValLaws.{toZ-ofZ}
 use borrow.Author.Needs.{needs}
-use Rattle.crustnewt.proofs.tell.Statement.{statement}
-use Rattle.crustnewt.proofs.tell.Tie as tie
+use Rattle.boxcall.proofs.tell.Statement.{statement}
+use Rattle.boxcall.proofs.tell.Tie as tie
 
 told-requires : tie.Need-told-requires
 told-requires c κs = search needs

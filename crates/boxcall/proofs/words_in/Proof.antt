@@ -1,9 +1,9 @@
--- `crustnewt::words_in` meets its promise.
+-- `boxcall::words_in` meets its promise.
 -- Assumes nothing.
-use Rattle.crustnewt.specs.Calls.{wordsAt}
+use Rattle.boxcall.specs.Calls.{wordsAt}
 use borrow.Author.Needs.{needs}
-use Rattle.crustnewt.proofs.words_in.Statement.{statement}
-use Rattle.crustnewt.proofs.words_in.Tie as tie
+use Rattle.boxcall.proofs.words_in.Statement.{statement}
+use Rattle.boxcall.proofs.words_in.Tie as tie
 
 slice-aggregate-lay : tie.Need-slice-aggregate-lay
 slice-aggregate-lay c = search needs

@@ -1,10 +1,10 @@
--- `crustnewt::crustnewt_box_hear` meets its promise.
+-- `boxcall::hear` meets its promise.
 -- Assumes nothing.
 use borrow.Author.Needs.{needs}
-use Rattle.crustnewt.specs.Calls.{boxCall}
-use Rattle.crustnewt.proofs.Lent.{room}
-use Rattle.crustnewt.proofs.crustnewt_box_hear.Statement.{statement}
-use Rattle.crustnewt.proofs.crustnewt_box_hear.Tie as tie
+use Rattle.boxcall.specs.Calls.{boxCall}
+use Rattle.boxcall.proofs.Lent.{room}
+use Rattle.boxcall.proofs.hear.Statement.{statement}
+use Rattle.boxcall.proofs.hear.Tie as tie
 
 is-lent-requires : tie.Need-is-lent-requires
 is-lent-requires c κs = search needs
@@ -42,8 +42,8 @@ returns-2 : tie.Need-returns-2
 unfolding boxCall
 returns-2 c = rw (← c .before .is-lent .ensures, c .if1 .left)
 
-pub crustnewt-box-hear-spec : {M : Type 1} → statement M
-crustnewt-box-hear-spec =
+pub hear-spec : {M : Type 1} → statement M
+hear-spec =
     tie.close
     (tie.spec
     is-lent-requires

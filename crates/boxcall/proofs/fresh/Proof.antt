@@ -1,10 +1,10 @@
--- `crustnewt::crustnewt_box_fresh` meets its promise.
+-- `boxcall::fresh` meets its promise.
 -- Assumes nothing.
 use borrow.Author.Needs.{needs}
-use Rattle.crustnewt.specs.Calls.{freshCall}
-use Rattle.crustnewt.proofs.Lent.{room}
-use Rattle.crustnewt.proofs.crustnewt_box_fresh.Statement.{statement}
-use Rattle.crustnewt.proofs.crustnewt_box_fresh.Tie as tie
+use Rattle.boxcall.specs.Calls.{freshCall}
+use Rattle.boxcall.proofs.Lent.{room}
+use Rattle.boxcall.proofs.fresh.Statement.{statement}
+use Rattle.boxcall.proofs.fresh.Tie as tie
 
 is-lent-requires : tie.Need-is-lent-requires
 is-lent-requires c κs = search needs
@@ -38,8 +38,8 @@ returns-2 : tie.Need-returns-2
 unfolding freshCall
 returns-2 c = rw (← c .before .is-lent .ensures, c .if1 .left)
 
-pub crustnewt-box-fresh-spec : {M : Type 1} → statement M
-crustnewt-box-fresh-spec =
+pub fresh-spec : {M : Type 1} → statement M
+fresh-spec =
     tie.close
     (tie.spec
     is-lent-requires

@@ -1,11 +1,11 @@
--- `crustnewt::crustnewt_box_tick` meets its promise.
+-- `boxcall::tick` meets its promise.
 -- Assumes nothing.
-use Rattle.crustnewt.specs.Calls.{boxCall}
+use Rattle.boxcall.specs.Calls.{boxCall}
 use borrow.Author.Needs.{needs}
-use Rattle.crustnewt.proofs.Lent.{room, place}
-use Rattle.crustnewt.proofs.Passing.{quiet-left}
-use Rattle.crustnewt.proofs.crustnewt_box_tick.Statement.{statement}
-use Rattle.crustnewt.proofs.crustnewt_box_tick.Tie as tie
+use Rattle.boxcall.proofs.Lent.{room, place}
+use Rattle.boxcall.proofs.Passing.{quiet-left}
+use Rattle.boxcall.proofs.tick.Statement.{statement}
+use Rattle.boxcall.proofs.tick.Tie as tie
 
 is-lent-requires : tie.Need-is-lent-requires
 is-lent-requires c κs = search needs
@@ -79,8 +79,8 @@ returns-3 : tie.Need-returns-3
 unfolding boxCall
 returns-3 c = rw (← c .before .is-lent .ensures, c .if1 .left)
 
-pub crustnewt-box-tick-spec : {M : Type 1} → statement M
-crustnewt-box-tick-spec =
+pub tick-spec : {M : Type 1} → statement M
+tick-spec =
     tie.close
     (tie.spec
     is-lent-requires

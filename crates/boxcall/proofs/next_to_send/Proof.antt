@@ -1,10 +1,10 @@
--- `crustnewt::crustnewt_box_next_to_send` meets its promise.
+-- `boxcall::next_to_send` meets its promise.
 -- Assumes nothing.
 use borrow.Author.Needs.{needs}
 use borrow.Author.Tests.{lt-ltb, le-ltb, eq-eqb, ne-eqb}
-use Rattle.crustnewt.specs.Calls.{nextCall}
-use Rattle.crustnewt.proofs.crustnewt_box_next_to_send.Statement.{statement}
-use Rattle.crustnewt.proofs.crustnewt_box_next_to_send.Tie as tie
+use Rattle.boxcall.specs.Calls.{nextCall}
+use Rattle.boxcall.proofs.next_to_send.Statement.{statement}
+use Rattle.boxcall.proofs.next_to_send.Tie as tie
 
 returns : tie.Need-returns
 unfolding nextCall
@@ -48,5 +48,5 @@ returns-4 c =
       le-ltb _ _ (c .if3 .left),
     )
 
-pub crustnewt-box-next-to-send-spec : {M : Type 1} → statement M
-crustnewt-box-next-to-send-spec = tie.close (tie.spec returns load-requires next-to-send-requires returns-2 returns-3 returns-4)
+pub next-to-send-spec : {M : Type 1} → statement M
+next-to-send-spec = tie.close (tie.spec returns load-requires next-to-send-requires returns-2 returns-3 returns-4)
