@@ -1,20 +1,14 @@
 -- `boxcall::tell` meets its promise.
 -- Assumes nothing.
-use Rattle.boxcall.specs.Calls.{toldOf}
+use borrow.Author.Needs.{needs}
 use mir.Syntax.{w64}
 use mir.ValLaws.{toZ-ofZ}
-use borrow.Author.Needs.{needs}
+use Rattle.boxcall.specs.Calls.{toldOf}
 use Rattle.boxcall.proofs.tell.Statement.{statement}
 use Rattle.boxcall.proofs.tell.Tie as tie
 
-told-requires : tie.Need-told-requires
-told-requires c κs = search needs
-
-slice-aggregate-lay : tie.Need-slice-aggregate-lay
-slice-aggregate-lay c = search needs
-
-lay-requires : tie.Need-lay-requires
-lay-requires c κs = search needs
+tell-requires : tie.Need-tell-requires
+tell-requires c κs = search needs
 
 lay-frames-requires : tie.Need-lay-frames-requires
 lay-frames-requires c κs = search needs
@@ -31,24 +25,15 @@ same-length-2 c = search needs
 returns : tie.Need-returns
 unfolding toldOf
 returns c =
-    let s = c .before .before .before .before .before .before .before .before .before .before .before .before .before .before .before .before in
+    let s = c .before .before .before .before .before .before .before .before .before .before .before .before .before .before in
     rw (
       c .number .ensures,
       c .before .before .before .lay-frames .ensures,
-      c .before .before .before .before .before .before .before .lay .ensures,
-      c .before .before .before .before .before .before .before .before .before .before .told .ensures,
+      c .before .before .before .before .before .before .before .tell .ensures,
       toZ-ofZ w64 (s .args .answer .drift) (record { sfits = s .good .0 .1 .1 .1 .0 .1 }),
     )
 
 pub tell-spec : {M : Type 1} → statement M
 tell-spec =
     tie.close
-    (tie.spec
-    told-requires
-    slice-aggregate-lay
-    lay-requires
-    lay-frames-requires
-    number-requires
-    same-length
-    same-length-2
-    returns)
+    (tie.spec tell-requires lay-frames-requires number-requires same-length same-length-2 returns)

@@ -1,7 +1,7 @@
 -- `boxcall::tick` meets its promise.
 -- Assumes nothing.
-use Rattle.boxcall.specs.Calls.{boxCall}
 use borrow.Author.Needs.{needs}
+use Rattle.boxcall.specs.Calls.{boxCall}
 use Rattle.boxcall.proofs.Lent.{room, place}
 use Rattle.boxcall.proofs.Passing.{quiet-left}
 use Rattle.boxcall.proofs.tick.Statement.{statement}
@@ -12,12 +12,6 @@ is-lent-requires c κs = search needs
 
 words-in-requires : tie.Need-words-in-requires
 words-in-requires c κs = search needs
-
-front-of-requires : tie.Need-front-of-requires
-front-of-requires c κs = search needs
-
-entries-in-requires : tie.Need-entries-in-requires
-entries-in-requires c κs = search needs
 
 tick-requires : tie.Need-tick-requires
 tick-requires c κs = search needs
@@ -34,13 +28,11 @@ same-length-2 c = search needs
 returns : tie.Need-returns
 unfolding boxCall
 returns c =
-    let lent = c .before .before .before .before .before .before .before .before .before .before .before .before .before .before .before .is-lent .ensures in
-    let enough = c .before .before .before .before .before .before .before .before .before .before .before .before .before .before .if1 .taken in
+    let lent = c .before .before .before .before .before .before .before .before .before .before .before .before .before .is-lent .ensures in
+    let enough = c .before .before .before .before .before .before .before .before .before .before .before .before .if1 .taken in
     rw (← lent, enough)
-    (quiet-left _ _ _ _ _ _ _ _ _
-    (c .before .before .before .before .before .before .before .before .before .before .before .before .words-in .ensures)
-    (c .before .before .before .before .before .before .before .before .before .before .before .front-of .ensures)
-    (c .before .before .before .before .before .before .before .before .before .before .entries-in .ensures)
+    (quiet-left _ _ _ _ _ _ _
+    (c .before .before .before .before .before .before .before .before .before .before .words-in .ensures)
     (c .before .before .before .before .before .before .before .before .before .tick .ensures)
     (c .before .before .before .before .before .before .before .if2 .taken)
     (c .before .before .before .before .pass .ensures)
@@ -53,7 +45,7 @@ tick-requires-2 : tie.Need-tick-requires-2
 tick-requires-2 c κs = search needs
 
 settle-requires : tie.Need-settle-requires
-settle-requires c κs = room _ _ _ _ (c .before .before .before .before .before .before .before .before .before .before .before .before .before .before .is-lent .ensures) (c .before .before .before .before .before .before .before .before .before .before .before .before .before .if1 .taken)
+settle-requires c κs = room _ _ _ _ (c .before .before .before .before .before .before .before .before .before .before .before .before .is-lent .ensures) (c .before .before .before .before .before .before .before .before .before .before .before .if1 .taken)
 
 same-length-3 : tie.Need-same-length-3
 same-length-3 c = search needs
@@ -71,8 +63,8 @@ returns-2 c =
       c .before .before .before .before .before .before .settle .ensures,
       c .before .before .before .before .before .before .before .before .before .before .tick2 .ensures,
       c .before .before .before .before .before .before .before .before .before .before .before .load .ensures,
-      ← c .before .before .before .before .before .before .before .before .before .before .before .before .before .before .before .before .before .before .before .before .before .is-lent .ensures,
-      c .before .before .before .before .before .before .before .before .before .before .before .before .before .before .before .before .before .before .before .before .if1 .taken,
+      ← c .before .before .before .before .before .before .before .before .before .before .before .before .before .before .before .before .before .before .before .is-lent .ensures,
+      c .before .before .before .before .before .before .before .before .before .before .before .before .before .before .before .before .before .before .if1 .taken,
     )
 
 returns-3 : tie.Need-returns-3
@@ -85,8 +77,6 @@ tick-spec =
     (tie.spec
     is-lent-requires
     words-in-requires
-    front-of-requires
-    entries-in-requires
     tick-requires
     pass-requires
     same-length
