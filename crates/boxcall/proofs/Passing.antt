@@ -5,26 +5,20 @@ use mathlib.Core.Path.{_≡_, refl, sym, ap, _∙_}
 use mathlib.Core.Bool.{true}
 use mathlib.Core.List.{List, [], _∷_, _++_, map, append-assoc}
 use native.Mathlib.Omega.{arith}
-use lib.ListN.{length, take, drop, replicate, length-append, length-take, length-drop, take-append-drop}
-use Rattle.boxwords.specs.Box.{entryWord, entryOf, frontWords, frontOf, boxed, boxWords}
+use lib.ListN.{length, take, drop, length-append, length-take, length-drop, take-append-drop}
+use Rattle.boxwords.specs.Box.{entryOf, frontWords, frontOf, boxed, boxWords}
+use Rattle.boxwords.specs.Laws.{words-again}
 use Rattle.boxwords.specs.Told.{listed, toldWords}
 use Rattle.boxwords.specs.declared.Front.{Front}
 use Rattle.floorbox.specs.Box.{tickOf}
 use Rattle.quiet.specs.Quiet.{later, tickOf as quietTick}
 use Rattle.quiet.specs.declared.Passed.{Passed as Ticked}
 use Rattle.quiet.proofs.Passes.{passes}
-use Rattle.words.specs.Laws.{laid-over, laid-whole}
+use Rattle.words.specs.Laws.{laid-over}
 use Rattle.words.specs.Words.{laid}
 use Rattle.boxcall.specs.Calls.{left, wordsAt, boxAt, toldOf, handed, settled}
+use Rattle.boxcall.specs.Laws.{whole}
 use Rattle.boxcall.specs.Passing.{Passed, passed, passedOn}
-
--- a grant's word is what it was
-word-again : (w : ℕ) → entryWord (entryOf w) ≡ w
-word-again w = omega arith
-
-words-again : (l : List ℕ) → map entryWord (map entryOf l) ≡ l
-words-again [] = refl
-words-again (w ∷ l) = rw (word-again w, words-again l)
 
 -- what is dropped of a beginning, and the rest
 seam : (k m : ℕ) (l : List ℕ) → k ≤ m → drop k (take m l) ++ drop m l ≡ drop k l
@@ -38,10 +32,6 @@ unfolding frontWords
 thirteen n = refl
 
 module _ (block : List ℕ) (h : 29 ≤ length block) where
-  whole : wordsAt block ≡ take 29 block
-  unfolding wordsAt
-  whole = laid-whole block (replicate 29 0) h
-
   -- the grants stay, word for word
   stays : (n : Front) → laid (boxWords (boxed n (map entryOf (drop 13 (wordsAt block))))) block ≡ laid (frontWords n) block
   unfolding boxWords
@@ -50,10 +40,10 @@ module _ (block : List ℕ) (h : 29 ≤ length block) where
       let rest = drop 13 (take 29 block) in
       let long : length rest ≡ 16 = simp (length-drop, length-take) (omega (arith, h)) in
       let all : length (f ++ rest) ≡ 29 = length-append f rest ∙ omega (arith, long, thirteen n) in
-      rw (whole, words-again rest, laid-over (f ++ rest) block (omega (arith, all, h)), all, laid-over f block (omega (arith, thirteen n, h)), thirteen n, append-assoc f rest (drop 29 block), seam 13 29 block (omega arith))
+      rw (whole block h, words-again rest, laid-over (f ++ rest) block (omega (arith, all, h)), all, laid-over f block (omega (arith, thirteen n, h)), thirteen n, append-assoc f rest (drop 29 block), seam 13 29 block (omega arith))
 
   long : length (wordsAt block) ≡ 29
-  long = rw whole (simp length-take (omega (arith, h)))
+  long = rw (whole block h) (simp length-take (omega (arith, h)))
 
   quiet-call : (frames reply : List ℕ) → quietTick (wordsAt block) .quiet ≡ true
       → settled (tickOf (boxAt block)) block frames reply
