@@ -1,7 +1,8 @@
--- Every promise of this crate settles the whole answer.
+-- Every promise of this crate settles the whole answer, and what `tell` leaves in the slice.
 -- Assumes nothing.
-use mathlib.Core.Path.{sym, _∙_}
-use Rattle.laws.specs.Settles.{Settles}
+use mathlib.Core.Path.{refl, sym, _∙_}
+use denote.Ref.{now}
+use Rattle.laws.specs.Settles.{Settles, SettlesLent}
 use Rattle.boxwords.proofs.front_words.Kinds as front-words-kinds
 use Rattle.boxwords.proofs.front_words.Reads as front-words
 use Rattle.boxwords.proofs.front_of.Kinds as front-of-kinds
@@ -14,8 +15,10 @@ use Rattle.boxwords.proofs.pack.Kinds as pack-kinds
 use Rattle.boxwords.proofs.pack.Reads as pack
 use Rattle.boxwords.proofs.unpack.Kinds as unpack-kinds
 use Rattle.boxwords.proofs.unpack.Reads as unpack
-use Rattle.boxwords.proofs.told.Kinds as told-kinds
-use Rattle.boxwords.proofs.told.Reads as told
+use Rattle.boxwords.proofs.has_words.Kinds as has-words-kinds
+use Rattle.boxwords.proofs.has_words.Reads as has-words
+use Rattle.boxwords.proofs.tell.Kinds as tell-kinds
+use Rattle.boxwords.proofs.tell.Reads as tell
 
 pub front-words-settles : Settles 0 front-words-kinds.ps front-words-kinds.r front-words.Post
 front-words-settles κs a e x y p q = p ∙ sym q
@@ -35,5 +38,8 @@ pack-settles κs a e x y p q = p ∙ sym q
 pub unpack-settles : Settles 0 unpack-kinds.ps unpack-kinds.r unpack.Post
 unpack-settles κs a e x y p q = p ∙ sym q
 
-pub told-settles : Settles 0 told-kinds.ps told-kinds.r told.Post
-told-settles κs a e x y p q = p ∙ sym q
+pub has-words-settles : Settles 0 has-words-kinds.ps has-words-kinds.r has-words.Post
+has-words-settles κs a e x y p q = p ∙ sym q
+
+pub tell-settles : SettlesLent 1 tell-kinds.ps tell-kinds.r (λ κs e. now (e .1 .1 .1 .0)) tell.Post
+tell-settles κs a e f x y p q = (refl, p ∙ sym q)

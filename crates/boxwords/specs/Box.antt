@@ -1,10 +1,10 @@
--- A box as words of 64 bits: which word holds what, and what box any words tell.
+-- A box as words of 64 bits: which word holds what, when words are a box's, and what box they tell.
 -- Assumes nothing.
 use Prim.Native.Nat.{ℕ, _+_, _*_, _/_, _%_, _^_}
-use mathlib.Core.Bool.{cond}
+use mathlib.Core.Bool.{Bool, true, cond, _&&_}
 use mathlib.Core.List.{List, [], _∷_, _++_, map}
-use lib.Dec.{eqb, ltb}
-use lib.ListN.{drop, getD}
+use lib.Dec.{eqb}
+use lib.ListN.{take, drop, getD}
 use Rattle.clock.specs.declared.Timer.{Timer}
 use Rattle.floorbox.specs.declared.FloorBox.{FloorBox}
 use Rattle.grants.specs.declared.Entry.{Entry}
@@ -14,8 +14,9 @@ use Rattle.light.specs.declared.Light.the-variants.{Rest, Before, Random, Warmi
 use Rattle.registration.specs.declared.Registration.{Registration}
 use Rattle.registration.specs.declared.State.{State}
 use Rattle.registration.specs.declared.State.the-variants.{Wait, Registering, RegisterReq, Registered}
-use Rattle.fields.specs.Fields.{shortOf, quantaOf, timerOf, strange, addressOf}
-use Rattle.words.specs.Words.{narrowed}
+use Rattle.fields.specs.Fields.{shortOf, countOf, quantaOf, timerOf}
+use Rattle.processes.specs.Parts.{fresh}
+use Rattle.words.specs.Words.{same}
 use Rattle.boxwords.specs.declared.Front.{Front}
 use Rattle.boxwords.specs.declared.LightWords.{LightWords}
 
@@ -35,18 +36,15 @@ stateWord Registering = 1
 stateWord RegisterReq = 2
 stateWord Registered = 3
 
+-- a word that is no state's is taken as WAIT
 unfoldable pub stateOf : ℕ → State
-stateOf w = cond (eqb w 0) Wait (cond (eqb w 1) Registering (cond (eqb w 2) RegisterReq Registered))
-
--- words that are no state's or no port's make the wait strange
-unfoldable pub waitOf : ℕ → ℕ → ℕ → Timer
-waitOf state port wait = cond (ltb 3 state) strange (cond (ltb 65535 port) strange (timerOf wait))
+stateOf w = cond (eqb w 1) Registering (cond (eqb w 2) RegisterReq (cond (eqb w 3) Registered Wait))
 
 abbrev pub registrationOf : ℕ → ℕ → ℕ → ℕ → ℕ → ℕ → Registration
 registrationOf state wait watchdog report port sync =
     record {
       state = stateOf state;
-      wait = waitOf state port wait;
+      wait = timerOf wait;
       watchdog = timerOf watchdog;
       report = timerOf report;
       port = shortOf port;
@@ -67,7 +65,7 @@ lightWords (Due t entry sync) = phaseWords 5 t (entryWord entry) (sync .0)
 lightWords (Lit t length sync) = phaseWords 6 t (length .0) (sync .0)
 lightWords (Open t) = phaseWords 7 t 0 0
 
--- the phases of discovery; a word that is no phase's gives a dark one that is never sound
+-- the phases of discovery; a word that is no phase's is taken as rest
 unfoldable pub discoveryOf : LightWords → Light
 discoveryOf w =
     let t = timerOf (w .left) in
@@ -75,16 +73,15 @@ discoveryOf w =
     cond (eqb (w .phase) 1) (Before t (quantaOf (w .grant)) sync)
     (cond (eqb (w .phase) 2) (Random t sync)
     (cond (eqb (w .phase) 3) (Warming t)
-    (cond (eqb (w .phase) 4) (Asking t) (Before strange (quantaOf 0) (quantaOf 0)))))
+    (cond (eqb (w .phase) 4) (Asking t) Rest)))
 
 unfoldable pub lightOf : LightWords → Light
 lightOf w =
     let t = timerOf (w .left) in
     let sync = quantaOf (w .sync) in
-    cond (eqb (w .phase) 0) Rest
-    (cond (eqb (w .phase) 5) (Due t (entryOf (w .grant)) sync)
+    cond (eqb (w .phase) 5) (Due t (entryOf (w .grant)) sync)
     (cond (eqb (w .phase) 6) (Lit t (quantaOf (w .grant)) sync)
-    (cond (eqb (w .phase) 7) (Open t) (discoveryOf w))))
+    (cond (eqb (w .phase) 7) (Open t) (discoveryOf w)))
 
 -- the words before the list's grants, in their order
 unfoldable pub frontWords : Front → List ℕ
@@ -110,8 +107,8 @@ unfoldable pub frontOf : List ℕ → Front
 frontOf w =
     let at : ℕ → ℕ = λ i. getD w i 0 in
     record {
-      address = addressOf (at 0) (at 1);
-      count = record { 0 = narrowed (at 1) };
+      address = record { 0 = at 0 };
+      count = countOf (at 1);
       registration = registrationOf (at 2) (at 3) (at 4) (at 5) (at 6) (at 7);
       light = lightOf (record { phase = at 8; left = at 9; grant = at 10; sync = at 11 });
       number = at 12;
@@ -135,6 +132,26 @@ boxed f entries =
 unfoldable pub boxWords : FloorBox → List ℕ
 boxWords b = frontWords (frontIn b) ++ map entryWord (b .processes .list .entries)
 
--- the box that words tell
+-- the box that words would tell if they were a box's
 unfoldable pub boxOf : List ℕ → FloorBox
 boxOf w = boxed (frontOf w) (map entryOf (drop 13 w))
+
+abbrev pub isClear : List ℕ → Bool
+isClear [] = true
+isClear (x ∷ l) = eqb x 0 && isClear l
+
+-- the box with this front has just these words: nothing stands behind as many grants as it holds
+unfoldable pub hasWords : Front → List ℕ → Bool
+hasWords f w = same (frontWords f) (take 13 w) && isClear (drop (f .number) (drop 13 w))
+
+-- the words are those of what they tell
+unfoldable pub isBox : List ℕ → Bool
+isBox w = hasWords (frontOf w) w
+
+-- what a refused fresh box is: sound nowhere, for its address
+abbrev pub nobody : FloorBox
+nobody = record { address = record { 0 = 0 }; processes = fresh }
+
+-- the box that words tell
+unfoldable pub boxIn : List ℕ → FloorBox
+boxIn w = cond (isBox w) (boxOf w) nobody

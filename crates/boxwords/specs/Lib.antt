@@ -1,2 +1,3 @@
 pub mod Box
+pub mod Laws
 pub mod Told

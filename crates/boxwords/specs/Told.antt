@@ -3,7 +3,10 @@
 use Prim.Native.Nat.{ℕ}
 use mathlib.Core.Bool.{cond}
 use mathlib.Core.List.{List, [], _∷_, _++_}
+use lib.Dec.{eqb}
 use lib.IntN.{ℤ}
+use lib.ListN.{length}
+use Rattle.telling.specs.Told.{isNothing}
 use Rattle.telling.specs.declared.Notice.{Notice}
 use Rattle.telling.specs.declared.Notices.{Notices}
 use Rattle.telling.specs.declared.Notice.the-variants.{Nothing, Window, Registered, Refused, Retry, Deregistered, Granted, Open, Close}
@@ -27,12 +30,25 @@ noticeWords Close = kindWords 8
 abbrev pub four : NoticeWords → List ℕ
 four n = n .kind ∷ n .start ∷ n .length ∷ n .force ∷ []
 
--- the drift, how many frames, and the four notices in order
+-- the notices in order: those before the first that is none
+abbrev pub ahead : Notice → List Notice → List Notice
+ahead x l = cond (isNothing x) [] (x ∷ l)
+
+unfoldable pub listed : Notices → List Notice
+listed n = ahead (n .first) (ahead (n .second) (ahead (n .third) (ahead (n .fourth) [])))
+
+-- four words each
+abbrev pub noticesWords : List Notice → List ℕ
+noticesWords [] = []
+noticesWords (x ∷ l) = four (noticeWords x) ++ noticesWords l
+
+-- the drift, how many frames, how many notices, and these in order
 unfoldable pub toldWords : ℤ → ℕ → Notices → List ℕ
-toldWords drift frames n =
-    driftWord drift
-    ∷ frames
-    ∷ four (noticeWords (n .first))
-    ++ four (noticeWords (n .second))
-    ++ four (noticeWords (n .third))
-    ++ four (noticeWords (n .fourth))
+toldWords drift frames n = driftWord drift ∷ frames ∷ length (listed n) ∷ noticesWords (listed n)
+
+-- how the code comes to it: the number by the kinds, and the words of which so many are laid
+unfoldable pub numberOf : ℕ → ℕ → ℕ → ℕ → ℕ
+numberOf a b c d = cond (eqb a 0) 0 (cond (eqb b 0) 1 (cond (eqb c 0) 2 (cond (eqb d 0) 3 4)))
+
+abbrev pub layout : ℤ → ℕ → ℕ → NoticeWords → NoticeWords → NoticeWords → NoticeWords → List ℕ
+layout drift frames number a b c d = driftWord drift ∷ frames ∷ number ∷ four a ++ four b ++ four c ++ four d

@@ -3,8 +3,10 @@ ghost use mathlib.Core.Path.{_≡_};
 ghost use mathlib.Core.Bool.{cond};
 ghost use mathlib.Core.List.{map};
 ghost use lib.ListN.{drop};
-ghost use Rattle.boxwords.specs.Box.{entryWord, entryOf, stateWord, stateOf, waitOf, registrationOf, phaseWords, lightWords, discoveryOf, lightOf, listOf, frontWords, frontOf, boxWords, boxOf};
-ghost use Rattle.boxwords.specs.Told.{kindWords, noticeWords, toldWords};
+ghost use Prim.Native.Nat.{min};
+ghost use Rattle.boxwords.specs.Box.{entryWord, entryOf, stateWord, stateOf, registrationOf, phaseWords, lightWords, discoveryOf, lightOf, listOf, frontWords, frontOf, boxed, isClear, hasWords, boxWords, nobody, boxIn};
+ghost use Rattle.boxwords.specs.Told.{kindWords, noticeWords, numberOf, layout, toldWords};
+ghost use Rattle.words.specs.Words.{laid};
 use clock::Count;
 use clock::Quanta;
 use clock::Timer;
@@ -106,32 +108,20 @@ fn state_word(state: State) -> u64
     }
 }
 
+// A word that is no state's is taken as WAIT.
 fn state_of(word: u64) -> State
     ensures { λ r. ⌜ r ≡ stateOf word ⌝ }
 {
-    if word == 0 {
-        return State::Wait;
-    }
     if word == 1 {
         return State::Registering;
     }
     if word == 2 {
         return State::RegisterReq;
     }
-    State::Registered
-}
-
-// The wait of a registration; words that are no state's or no port's make it unsound.
-fn wait_of(state: u64, port: u64, wait: u64) -> Timer
-    ensures { λ r. ⌜ r ≡ waitOf state port wait ⌝ }
-{
-    if 3 < state {
-        return fields::strange();
+    if word == 3 {
+        return State::Registered;
     }
-    if 65535 < port {
-        return fields::strange();
-    }
-    fields::timer_of(wait)
+    State::Wait
 }
 
 fn registration_of(
@@ -146,7 +136,7 @@ fn registration_of(
 {
     Registration {
         state: state_of(state),
-        wait: wait_of(state, port, wait),
+        wait: fields::timer_of(wait),
         watchdog: fields::timer_of(watchdog),
         report: fields::timer_of(report),
         port: fields::short_of(port),
@@ -188,7 +178,7 @@ fn light_words(light: Light) -> LightWords
     }
 }
 
-// The phases of discovery. A word that is no phase's gives a dark one that is never sound.
+// The phases of discovery. A word that is no phase's is taken as rest.
 fn discovery_of(w: LightWords) -> Light
     ensures { λ r. ⌜ r ≡ discoveryOf w ⌝ }
 {
@@ -211,11 +201,7 @@ fn discovery_of(w: LightWords) -> Light
     if phase == 4 {
         return Light::Asking { timer };
     }
-    Light::Before {
-        timer: fields::strange(),
-        random: Quanta(0),
-        sync: Quanta(0),
-    }
+    Light::Rest
 }
 
 fn light_of(w: LightWords) -> Light
@@ -225,9 +211,6 @@ fn light_of(w: LightWords) -> Light
     let grant = w.grant;
     let timer = fields::timer_of(w.left);
     let sync = fields::quanta_of(w.sync);
-    if phase == 0 {
-        return Light::Rest;
-    }
     if phase == 5 {
         return Light::Due {
             timer,
@@ -288,8 +271,8 @@ pub fn front_of(w: [u64; 29]) -> Front
         sync: w[11],
     };
     Front {
-        address: fields::address_of(w[0], w[1]),
-        count: Count(words::narrow(w[1])),
+        address: Address(w[0]),
+        count: fields::count_of(w[1]),
         registration: registration_of(w[2], w[3], w[4], w[5], w[6], w[7]),
         light: light_of(held),
         number: w[12] as usize,
@@ -329,11 +312,50 @@ pub fn pack(b: FloorBox) -> [u64; 29]
     w
 }
 
-// The box that the words tell. Those that no box packs to give an unsound one.
-pub fn unpack(w: [u64; 29]) -> FloorBox
-    ensures { λ r. ⌜ r ≡ boxOf w ⌝ }
+// How many places a list of so many grants takes.
+fn held(number: usize) -> usize
+    ensures { λ r. ⌜ r ≡ min number 16 ⌝ }
 {
-    let front = front_of(w);
+    if number < GrantList::ROOM {
+        return number;
+    }
+    GrantList::ROOM
+}
+
+// Nothing stands behind so many grants.
+fn is_clear(number: usize, entries: [u64; 16]) -> bool
+    ensures { λ r. ⌜ r ≡ isClear (drop number entries) ⌝ }
+{
+    let mut clear = true;
+    let mut i = held(number);
+    while i < GrantList::ROOM {
+        clear = clear & (entries[i] == 0);
+        i += 1;
+    }
+    clear
+}
+
+// Whether a box with this front has just these words.
+pub fn has_words(front: Front, w: [u64; 29]) -> bool
+    ensures { λ r. ⌜ r ≡ hasWords front w ⌝ }
+{
+    let told = front_words(front);
+    words::same(&told, &w[..13]) & is_clear(front.number, entries_in(w))
+}
+
+// What a refused fresh box is: sound nowhere, for its address.
+fn nobody() -> FloorBox
+    ensures { λ r. ⌜ r ≡ nobody ⌝ }
+{
+    let address = Address(0);
+    let processes = Processes::fresh();
+    FloorBox { address, processes }
+}
+
+// The box with this front and the list's sixteen places.
+fn box_with(front: Front, entries: [u64; 16]) -> FloorBox
+    ensures { λ r. ⌜ r ≡ boxed front (map entryOf entries) ⌝ }
+{
     let address = front.address;
     let count = front.count;
     let registration = front.registration;
@@ -341,10 +363,21 @@ pub fn unpack(w: [u64; 29]) -> FloorBox
     let processes = Processes {
         count,
         registration,
-        list: list_of(front.number, entries_in(w)),
+        list: list_of(front.number, entries),
         light,
     };
     FloorBox { address, processes }
+}
+
+// The box that the words tell.
+pub fn unpack(w: [u64; 29]) -> FloorBox
+    ensures { λ r. ⌜ r ≡ boxIn w ⌝ }
+{
+    let front = front_of(w);
+    if has_words(front, w) {
+        return box_with(front, entries_in(w));
+    }
+    nobody()
 }
 
 fn kind(kind: u64) -> NoticeWords
@@ -389,21 +422,40 @@ fn notice_words(notice: Notice) -> NoticeWords
     }
 }
 
-// What a call tells: the drift, how many frames, and the four notices in order.
-pub fn told(drift: i64, frames: usize, notices: Notices) -> [u64; 18]
-    ensures { λ r. ⌜ r ≡ toldWords drift frames notices ⌝ }
+// How many stand before the first that is nothing, by their kinds.
+fn number(a: u64, b: u64, c: u64, d: u64) -> usize
+    ensures { λ r. ⌜ r ≡ numberOf a b c d ⌝ }
 {
-    let first = notices.first;
-    let second = notices.second;
-    let third = notices.third;
-    let fourth = notices.fourth;
-    let a = notice_words(first);
-    let b = notice_words(second);
-    let c = notice_words(third);
-    let d = notice_words(fourth);
+    if a == 0 {
+        return 0;
+    }
+    if b == 0 {
+        return 1;
+    }
+    if c == 0 {
+        return 2;
+    }
+    if d == 0 {
+        return 3;
+    }
+    4
+}
+
+fn layout(
+    drift: i64,
+    frames: usize,
+    number: usize,
+    a: NoticeWords,
+    b: NoticeWords,
+    c: NoticeWords,
+    d: NoticeWords,
+) -> [u64; 19]
+    ensures { λ r. ⌜ r ≡ layout drift frames number a b c d ⌝ }
+{
     [
         words::of_drift(drift),
         frames as u64,
+        number as u64,
         a.kind,
         a.start,
         a.length,
@@ -421,4 +473,22 @@ pub fn told(drift: i64, frames: usize, notices: Notices) -> [u64; 18]
         d.length,
         d.force,
     ]
+}
+
+// What a call tells: the drift, how many frames, how many notices, and these in order. Words behind the last stay.
+pub fn tell(drift: i64, frames: usize, notices: Notices, reply: &mut [u64])
+    ensures { λ _. ⌜ now (reply .exit) ≡ laid (toldWords drift frames notices) (now (reply .entry)) ⌝ }
+{
+    let first = notices.first;
+    let second = notices.second;
+    let third = notices.third;
+    let fourth = notices.fourth;
+    let a = notice_words(first);
+    let b = notice_words(second);
+    let c = notice_words(third);
+    let d = notice_words(fourth);
+    let n = number(a.kind, b.kind, c.kind, d.kind);
+    let words = layout(drift, frames, n, a, b, c, d);
+    let end = 3 + 4 * n;
+    words::lay(&words[..end], reply);
 }

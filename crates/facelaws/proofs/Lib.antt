@@ -1,4 +1,6 @@
 -- What the C face is worth.
+pub mod BoxFresh
+pub mod BoxStands
 pub mod Calls
 pub mod HeadCalls
 pub mod HeadFresh

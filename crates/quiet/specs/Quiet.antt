@@ -1,11 +1,11 @@
--- A quiet tick: of a sound box, where no timer of the registration rings, the transmitter has nothing to tell, and activation has nothing
--- to choose from.
+-- A quiet tick: of words that are a sound box's, where no timer of the registration rings, the transmitter has nothing to tell, and
+-- activation has nothing to choose from.
 -- Assumes nothing.
 use Prim.Native.Nat.{ℕ}
 use mathlib.Core.Bool.{Bool, true, false, not, _&&_, _||_}
-use mathlib.Core.List.{List, map}
+use mathlib.Core.List.{List}
 use lib.Dec.{eqb}
-use Rattle.boxwords.specs.Box.{entryOf, boxed}
+use Rattle.boxwords.specs.Box.{entryOf, frontOf, isBox, boxOf}
 use Rattle.boxwords.specs.declared.Front.{Front}
 use Rattle.clock.specs.Counts.{nextOf}
 use Rattle.floorbox.specs.Box.{soundOf}
@@ -70,11 +70,13 @@ later f =
 abbrev pub activates : Front → Bool
 activates f = atRest (f .light) && isRegistered (f .registration .state)
 
-unfoldable pub tickOf : Front → List ℕ → Passed
-tickOf f entries =
+unfoldable pub tickOf : List ℕ → Passed
+tickOf w =
+    let f = frontOf w in
     record {
       quiet =
-          soundOf (boxed f (map entryOf entries))
+          isBox w
+          && soundOf (boxOf w)
           && isSilent (registrationTick (f .registration) .bell)
           && isDark (lightTick (f .light) .beam)
           && (eqb (f .number) 0 || not (activates (later f)));

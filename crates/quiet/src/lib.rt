@@ -187,9 +187,10 @@ fn sound(f: Front, entries: [u64; 16]) -> bool
 }
 
 // Activation, which comes when at rest and REGISTERED, has nothing to choose from.
-pub fn tick(f: Front, entries: [u64; 16]) -> Passed
-    ensures { λ r. ⌜ r ≡ tickOf f entries ⌝ }
+pub fn tick(w: [u64; 29]) -> Passed
+    ensures { λ r. ⌜ r ≡ tickOf w ⌝ }
 {
+    let f = boxwords::front_of(w);
     let address = f.address;
     let count = f.count;
     let registration = f.registration;
@@ -201,7 +202,8 @@ pub fn tick(f: Front, entries: [u64; 16]) -> Passed
     let lit = l.light;
     let beam = l.beam;
     Passed {
-        quiet: sound(f, entries)
+        quiet: boxwords::has_words(f, w)
+            & sound(f, boxwords::entries_in(w))
             & is_silent(bell)
             & is_dark(beam)
             & ((f.number == 0) | !(lit.at_rest() & timed.is_registered())),

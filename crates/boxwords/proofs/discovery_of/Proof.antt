@@ -1,8 +1,8 @@
 -- `boxwords::discovery_of` meets its promise.
 -- Assumes nothing.
+use borrow.Author.Needs.{needs}
 use borrow.Author.Tests.{eq-eqb, ne-eqb}
 use Rattle.boxwords.specs.Box.{discoveryOf}
-use borrow.Author.Needs.{needs}
 use Rattle.boxwords.proofs.discovery_of.Statement.{statement}
 use Rattle.boxwords.proofs.discovery_of.Tie as tie
 
@@ -31,12 +31,9 @@ returns-4 : tie.Need-returns-4
 unfolding discoveryOf
 returns-4 c = rw (← c .before .before .before .before .before .timer-of .ensures, ← c .before .before .before .before .quanta-of .ensures, ne-eqb _ _ (c .before .before .before .if1 .left), ne-eqb _ _ (c .before .before .if2 .left), ne-eqb _ _ (c .before .if3 .left), eq-eqb _ _ (c .if4 .taken))
 
-strange-requires : tie.Need-strange-requires
-strange-requires c κs = search needs
-
 returns-5 : tie.Need-returns-5
 unfolding discoveryOf
-returns-5 c = rw (c .strange .ensures, ← c .before .before .before .before .before .before .timer-of .ensures, ← c .before .before .before .before .before .quanta-of .ensures, ne-eqb _ _ (c .before .before .before .before .if1 .left), ne-eqb _ _ (c .before .before .before .if2 .left), ne-eqb _ _ (c .before .before .if3 .left), ne-eqb _ _ (c .before .if4 .left))
+returns-5 c = rw (← c .before .before .before .before .before .timer-of .ensures, ← c .before .before .before .before .quanta-of .ensures, ne-eqb _ _ (c .before .before .before .if1 .left), ne-eqb _ _ (c .before .before .if2 .left), ne-eqb _ _ (c .before .if3 .left), ne-eqb _ _ (c .if4 .left))
 
 pub discovery-of-spec : {M : Type 1} → statement M
 discovery-of-spec =
@@ -49,5 +46,4 @@ discovery-of-spec =
     returns-2
     returns-3
     returns-4
-    strange-requires
     returns-5)

@@ -1,8 +1,8 @@
 -- `boxwords::light_of` meets its promise.
 -- Assumes nothing.
+use borrow.Author.Needs.{needs}
 use borrow.Author.Tests.{eq-eqb, ne-eqb}
 use Rattle.boxwords.specs.Box.{lightOf}
-use borrow.Author.Needs.{needs}
 use Rattle.boxwords.proofs.light_of.Statement.{statement}
 use Rattle.boxwords.proofs.light_of.Tie as tie
 
@@ -12,34 +12,30 @@ timer-of-requires c κs = search needs
 quanta-of-requires : tie.Need-quanta-of-requires
 quanta-of-requires c κs = search needs
 
-returns : tie.Need-returns
-unfolding lightOf
-returns c = rw (← c .before .before .timer-of .ensures, ← c .before .quanta-of .ensures, eq-eqb _ _ (c .if1 .taken))
-
 entry-of-requires : tie.Need-entry-of-requires
 entry-of-requires c κs = search needs
 
-returns-2 : tie.Need-returns-2
+returns : tie.Need-returns
 unfolding lightOf
-returns-2 c = rw (c .entry-of .ensures, ← c .before .before .before .before .timer-of .ensures, ← c .before .before .before .quanta-of .ensures, ne-eqb _ _ (c .before .before .if1 .left), eq-eqb _ _ (c .before .if2 .taken))
+returns c = rw (c .entry-of .ensures, ← c .before .before .before .timer-of .ensures, ← c .before .before .quanta-of .ensures, eq-eqb _ _ (c .before .if1 .taken))
 
 quanta-of-requires-2 : tie.Need-quanta-of-requires-2
 quanta-of-requires-2 c κs = search needs
 
+returns-2 : tie.Need-returns-2
+unfolding lightOf
+returns-2 c = rw (c .quanta-of2 .ensures, ← c .before .before .before .before .timer-of .ensures, ← c .before .before .before .quanta-of .ensures, ne-eqb _ _ (c .before .before .if1 .left), eq-eqb _ _ (c .before .if2 .taken))
+
 returns-3 : tie.Need-returns-3
 unfolding lightOf
-returns-3 c = rw (c .quanta-of2 .ensures, ← c .before .before .before .before .before .timer-of .ensures, ← c .before .before .before .before .quanta-of .ensures, ne-eqb _ _ (c .before .before .before .if1 .left), ne-eqb _ _ (c .before .before .if2 .left), eq-eqb _ _ (c .before .if3 .taken))
-
-returns-4 : tie.Need-returns-4
-unfolding lightOf
-returns-4 c = rw (← c .before .before .before .before .before .timer-of .ensures, ← c .before .before .before .before .quanta-of .ensures, ne-eqb _ _ (c .before .before .before .if1 .left), ne-eqb _ _ (c .before .before .if2 .left), ne-eqb _ _ (c .before .if3 .left), eq-eqb _ _ (c .if4 .taken))
+returns-3 c = rw (← c .before .before .before .before .timer-of .ensures, ← c .before .before .before .quanta-of .ensures, ne-eqb _ _ (c .before .before .if1 .left), ne-eqb _ _ (c .before .if2 .left), eq-eqb _ _ (c .if3 .taken))
 
 discovery-of-requires : tie.Need-discovery-of-requires
 discovery-of-requires c κs = search needs
 
-returns-5 : tie.Need-returns-5
+returns-4 : tie.Need-returns-4
 unfolding lightOf
-returns-5 c = rw (c .discovery-of .ensures, ← c .before .before .before .before .before .before .timer-of .ensures, ← c .before .before .before .before .before .quanta-of .ensures, ne-eqb _ _ (c .before .before .before .before .if1 .left), ne-eqb _ _ (c .before .before .before .if2 .left), ne-eqb _ _ (c .before .before .if3 .left), ne-eqb _ _ (c .before .if4 .left))
+returns-4 c = rw (c .discovery-of .ensures, ← c .before .before .before .before .before .timer-of .ensures, ← c .before .before .before .before .quanta-of .ensures, ne-eqb _ _ (c .before .before .before .if1 .left), ne-eqb _ _ (c .before .before .if2 .left), ne-eqb _ _ (c .before .if3 .left))
 
 pub light-of-spec : {M : Type 1} → statement M
 light-of-spec =
@@ -47,11 +43,10 @@ light-of-spec =
     (tie.spec
     timer-of-requires
     quanta-of-requires
-    returns
     entry-of-requires
-    returns-2
+    returns
     quanta-of-requires-2
+    returns-2
     returns-3
-    returns-4
     discovery-of-requires
-    returns-5)
+    returns-4)

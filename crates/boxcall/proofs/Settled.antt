@@ -1,0 +1,46 @@
+-- Every promise of this crate settles the whole answer, and what then stands in the caller's memory.
+-- Assumes nothing.
+use Prim.Native.Nat.{ℕ}
+use mathlib.Core.Path.{_≡_, sym, ap, _∙_}
+use mathlib.Core.List.{List}
+use denote.Ref.{now}
+use Rattle.laws.specs.Settles.{Settles, SettlesLent}
+use Rattle.boxcall.specs.Calls.{Left, left}
+use Rattle.boxcall.proofs.deregister.Kinds as deregister-kinds
+use Rattle.boxcall.proofs.deregister.Reads as deregister
+use Rattle.boxcall.proofs.fresh.Kinds as fresh-kinds
+use Rattle.boxcall.proofs.fresh.Reads as fresh
+use Rattle.boxcall.proofs.hear.Kinds as hear-kinds
+use Rattle.boxcall.proofs.hear.Reads as hear
+use Rattle.boxcall.proofs.next_to_send.Kinds as next-kinds
+use Rattle.boxcall.proofs.next_to_send.Reads as next
+use Rattle.boxcall.proofs.register.Kinds as register-kinds
+use Rattle.boxcall.proofs.register.Reads as register
+use Rattle.boxcall.proofs.tick.Kinds as tick-kinds
+use Rattle.boxcall.proofs.tick.Reads as tick
+
+-- number, block, frames and what is told, whatever the core's call
+pub call-settles : (l : Left) (x y : ℕ) (b c f g r s : List ℕ) → left x b f r ≡ l → left y c g s ≡ l → (x ≡ y) × (left 0 b f r ≡ left 0 c g s)
+call-settles l x y b c f g r s p q = (
+  ap (λ (t : Left). t .number) (p ∙ sym q),
+  ap (λ (t : Left). left 0 (t .block) (t .frames) (t .reply)) (p ∙ sym q),
+)
+
+pub fresh-settles : SettlesLent 3 fresh-kinds.ps fresh-kinds.r (λ κs e. left 0 (now (e .1 .0)) (now (e .1 .1 .0)) (now (e .1 .1 .1 .0))) fresh.Post
+fresh-settles κs a e f x y p q = call-settles _ x y _ _ _ _ _ _ p q
+
+pub register-settles : SettlesLent 3 register-kinds.ps register-kinds.r (λ κs e. left 0 (now (e .0)) (now (e .1 .0)) (now (e .1 .1 .0))) register.Post
+register-settles κs a e f x y p q = call-settles _ x y _ _ _ _ _ _ p q
+
+pub deregister-settles : SettlesLent 3 deregister-kinds.ps deregister-kinds.r (λ κs e. left 0 (now (e .0)) (now (e .1 .0)) (now (e .1 .1 .0))) deregister.Post
+deregister-settles κs a e f x y p q = call-settles _ x y _ _ _ _ _ _ p q
+
+pub hear-settles : SettlesLent 4 hear-kinds.ps hear-kinds.r
+    (λ κs e. left 0 (now (e .1 .1 .0)) (now (e .1 .1 .1 .0)) (now (e .1 .1 .1 .1 .0))) hear.Post
+hear-settles κs a e f x y p q = call-settles _ x y _ _ _ _ _ _ p q
+
+pub tick-settles : SettlesLent 3 tick-kinds.ps tick-kinds.r (λ κs e. left 0 (now (e .0)) (now (e .1 .0)) (now (e .1 .1 .0))) tick.Post
+tick-settles κs a e f x y p q = call-settles _ x y _ _ _ _ _ _ p q
+
+pub next-settles : Settles 2 next-kinds.ps next-kinds.r next.Post
+next-settles κs a e x y p q = p ∙ sym q

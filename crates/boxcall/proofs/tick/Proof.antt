@@ -1,0 +1,92 @@
+-- `boxcall::tick` meets its promise.
+-- Assumes nothing.
+use borrow.Author.Needs.{needs}
+use Rattle.boxcall.specs.Calls.{boxCall}
+use Rattle.boxcall.proofs.Lent.{room, place}
+use Rattle.boxcall.proofs.Passing.{quiet-left}
+use Rattle.boxcall.proofs.tick.Statement.{statement}
+use Rattle.boxcall.proofs.tick.Tie as tie
+
+is-lent-requires : tie.Need-is-lent-requires
+is-lent-requires c κs = search needs
+
+words-in-requires : tie.Need-words-in-requires
+words-in-requires c κs = search needs
+
+tick-requires : tie.Need-tick-requires
+tick-requires c κs = search needs
+
+pass-requires : tie.Need-pass-requires
+pass-requires c κs = search needs
+
+same-length : tie.Need-same-length
+same-length c = search needs
+
+same-length-2 : tie.Need-same-length-2
+same-length-2 c = search needs
+
+returns : tie.Need-returns
+unfolding boxCall
+returns c =
+    let lent = c .before .before .before .before .before .before .before .before .before .before .before .before .before .is-lent .ensures in
+    let enough = c .before .before .before .before .before .before .before .before .before .before .before .before .if1 .taken in
+    rw (← lent, enough)
+    (quiet-left _ _ _ _ _ _ _
+    (c .before .before .before .before .before .before .before .before .before .before .words-in .ensures)
+    (c .before .before .before .before .before .before .before .before .before .tick .ensures)
+    (c .before .before .before .before .before .before .before .if2 .taken)
+    (c .before .before .before .before .pass .ensures)
+    (place _ _ _ _ lent enough))
+
+load-requires : tie.Need-load-requires
+load-requires c κs = search needs
+
+tick-requires-2 : tie.Need-tick-requires-2
+tick-requires-2 c κs = search needs
+
+settle-requires : tie.Need-settle-requires
+settle-requires c κs = room _ _ _ _ (c .before .before .before .before .before .before .before .before .before .before .before .before .is-lent .ensures) (c .before .before .before .before .before .before .before .before .before .before .before .if1 .taken)
+
+same-length-3 : tie.Need-same-length-3
+same-length-3 c = search needs
+
+same-length-4 : tie.Need-same-length-4
+same-length-4 c = search needs
+
+same-length-5 : tie.Need-same-length-5
+same-length-5 c = search needs
+
+returns-2 : tie.Need-returns-2
+unfolding boxCall
+returns-2 c =
+    rw (
+      c .before .before .before .before .before .before .settle .ensures,
+      c .before .before .before .before .before .before .before .before .before .before .tick2 .ensures,
+      c .before .before .before .before .before .before .before .before .before .before .before .load .ensures,
+      ← c .before .before .before .before .before .before .before .before .before .before .before .before .before .before .before .before .before .before .before .is-lent .ensures,
+      c .before .before .before .before .before .before .before .before .before .before .before .before .before .before .before .before .before .before .if1 .taken,
+    )
+
+returns-3 : tie.Need-returns-3
+unfolding boxCall
+returns-3 c = rw (← c .before .is-lent .ensures, c .if1 .left)
+
+pub tick-spec : {M : Type 1} → statement M
+tick-spec =
+    tie.close
+    (tie.spec
+    is-lent-requires
+    words-in-requires
+    tick-requires
+    pass-requires
+    same-length
+    same-length-2
+    returns
+    load-requires
+    tick-requires-2
+    settle-requires
+    same-length-3
+    same-length-4
+    same-length-5
+    returns-2
+    returns-3)
