@@ -5,31 +5,24 @@ use Prim.Native.Nat.{ℕ, _^_, _<_}
 use mathlib.Core.Path.{_≡_, refl, ap, _∙_}
 use mathlib.Core.Bool.{Bool, true, cond}
 use mathlib.Core.List.{List, [], _∷_, _++_}
-use native.Mathlib.Omega.{arith}
 use lib.ListN.{length}
-use Rattle.clock.specs.declared.Quanta.{Quanta}
 use Rattle.clock.specs.declared.Timer.{Timer}
 use Rattle.head.specs.declared.Head.{Head}
 use Rattle.head.specs.declared.Window.{Window}
 use Rattle.head.specs.declared.Window.the-variants.{Idle, Before, Inside}
 use Rattle.headwords.specs.Head.{windowWords, windowOf, headWords, headOf, isHead, nobody, headIn}
-use Rattle.fields.specs.Fields.{timerOf, quantaOf}
+use Rattle.fields.specs.Fields.{timerOf}
 use Rattle.headwords.specs.Table.{stateWord, stateOf, linkWords, linkOf, five, isLink, noLink, linkIn, tableWords, linksOf}
 use Rattle.links.specs.declared.Link.{Link}
 use Rattle.links.specs.declared.State.{State}
 use Rattle.links.specs.declared.State.the-variants as Of
 use Rattle.words.specs.Laws.{same-self}
-use Rattle.words.specs.Words.{narrowed, same}
+use Rattle.words.specs.Words.{same}
 use Rattle.facelaws.specs.Head.{WindowFits, HeadFits, LinkFits, LinksFit}
-
-narrow-is : (n : ℕ) → n < 2 ^ 32 → narrowed n ≡ n
-narrow-is n h = omega arith
+use Rattle.facelaws.proofs.RoundTrip.{narrow-is, quanta-back}
 
 timer-back : (t : Timer) → t .left < 2 ^ 32 → timerOf (t .left) ≡ t
 timer-back t h = rw (narrow-is (t .left) h)
-
-quanta-back : (q : Quanta) → q .0 < 2 ^ 32 → quantaOf (q .0) ≡ q
-quanta-back q h = rw (narrow-is (q .0) h)
 
 window-back : (w : Window) → WindowFits w → windowOf (windowWords w) ≡ w
 unfolding windowOf

@@ -1,4 +1,4 @@
--- A table's words one link further on: what the loops over them do in a turn.
+-- A table's words one link further on: what the loops over them do in a turn. And how many words a reply has.
 -- Assumes nothing.
 use Prim.Native.Nat.{ℕ, zero, suc, _+_, _*_, _-_, _/_, _≤_, _<_}
 use mathlib.Core.Bool.{Bool, true, false}
@@ -8,13 +8,16 @@ use native.Mathlib.Omega.{arith}
 use native.Mathlib.Nat.{add-zero}
 use native.Mathlib.Numerals.{add-one}
 use borrow.Author.Tests.{leb-true}
-use lib.Dec.{leb}
+use lib.Dec.{eqb, leb}
 use lib.ListN.{length, take, drop, getD, set, replicate, length-append, length-replicate}
 use lib.Seq.{length-take-le, take-suc, append-snoc, set-at, take-at, drop-at, drop-drop, getD-drop, sets-eq}
+use Rattle.laws.specs.Cases.{either}
 use Rattle.links.specs.Link.{idle}
 use Rattle.links.specs.declared.Link.{Link}
 use Rattle.headwords.specs.Table.{linkWords, linkIn, five, wordsAt, tableWords, linksOf, linksIn, loaded}
+use Rattle.headwords.specs.Told.{kindWord, noticeWords, toldWords}
 use Rattle.headwords.specs.declared.LinkWords.{LinkWords}
+use Rattle.serving.specs.declared.Answer.{Answer}
 
 -- never more than a table, nor more than there are words for
 few-by : (w : ℕ) (t : Bool) → leb (w / 5) 64 ≡ t → (linksIn w ≤ 64) × (5 * linksIn w ≤ w)
@@ -113,3 +116,8 @@ unfolding loaded
 length-loaded ws =
     let few = links-few (length ws) in
     rw (length-append, length-links (linksIn (length ws)) ws, length-replicate) (omega (arith, few .0))
+
+-- what is told has at most five words
+pub told-few : (a : Answer) → length (toldWords a) ≤ 5
+unfolding toldWords noticeWords
+told-few a = either (λ (us : List ℕ). suc (length us) ≤ 5) (eqb (kindWord (a .notice .kind)) 0) _ _ (λ _. omega arith) (λ _. omega arith)
