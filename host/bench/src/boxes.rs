@@ -1,8 +1,8 @@
 //! Ticks of a box.
 
 use crate::measure::Row;
+use crustnewt::{BoxParts, BoxState, Light};
 use plain::Address;
-use proved::{BoxParts, BoxState, Light};
 use std::hint::black_box;
 
 /// The box of the measurements, and the first of many.
@@ -15,7 +15,7 @@ const TICKS: u32 = 50_000;
 #[derive(Clone, Copy)]
 pub struct Pair {
     /// For the proved library.
-    pub proved: proved::FloorBox,
+    pub proved: crustnewt::FloorBox,
     /// For the independent program.
     pub plain: plain::FloorBox,
 }
@@ -70,7 +70,7 @@ fn pair(address: u64, state: BoxState, window: u32) -> Pair {
         grants: Vec::new(),
     };
     Pair {
-        proved: proved::FloorBox::restored(&parts).expect("it is sound"),
+        proved: crustnewt::FloorBox::restored(&parts).expect("it is sound"),
         plain: plain_box(&parts),
     }
 }

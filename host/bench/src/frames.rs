@@ -3,8 +3,8 @@
 use crate::boxes::BOX;
 use crate::heads::HEAD;
 use crate::measure::Row;
+use crustnewt::{AckFlag, Body, Grant, Granted, Message, RegisterFlag, RequestFlag};
 use plain::frame::{read, write};
-use proved::{AckFlag, Body, Grant, Granted, Message, RegisterFlag, RequestFlag};
 use std::hint::black_box;
 
 /// A row of reading and one of writing for each kind.

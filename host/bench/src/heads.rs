@@ -41,12 +41,12 @@ pub fn rows() -> Vec<Row> {
 }
 
 /// The same head for both, with so many registered links.
-fn pair(links: usize) -> (proved::Head, Plain) {
+fn pair(links: usize) -> (crustnewt::Head, Plain) {
     let addresses = (0..links as u64).map(|n| BOX + n);
-    let table: Vec<proved::Link> = addresses
-        .map(|address| proved::Link {
+    let table: Vec<crustnewt::Link> = addresses
+        .map(|address| crustnewt::Link {
             address,
-            state: proved::LinkState::Registered,
+            state: crustnewt::LinkState::Registered,
             wait: 0,
             watchdog: WATCHDOG,
             periodic: PERIOD,
@@ -60,17 +60,17 @@ fn pair(links: usize) -> (proved::Head, Plain) {
         links: table.iter().map(plain_link).collect(),
         output: vec![0; 60 * links],
     };
-    let parts = proved::HeadParts {
+    let parts = crustnewt::HeadParts {
         address: HEAD,
         count: 0,
-        window: proved::Window::Idle,
+        window: crustnewt::Window::Idle,
     };
-    let table = proved::Table::of(&table).expect("it has 1 to 64 links");
-    let proved = proved::Head::restored(&parts, table).expect("it is sound");
+    let table = crustnewt::Table::of(&table).expect("it has 1 to 64 links");
+    let proved = crustnewt::Head::restored(&parts, table).expect("it is sound");
     (proved, plain)
 }
 
-fn plain_link(link: &proved::Link) -> plain::Link {
+fn plain_link(link: &crustnewt::Link) -> plain::Link {
     plain::Link {
         state: plain::LinkState::Registered,
         address: Address(link.address),

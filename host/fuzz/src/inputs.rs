@@ -1,7 +1,7 @@
 //! Octets and words to hand in.
 
-use crustnewt::dice::Dice;
-use proved::{AckFlag, Body, Grant, Granted, Message, RegisterFlag, RequestFlag};
+use crustnewt::{AckFlag, Body, Grant, Granted, Message, RegisterFlag, RequestFlag};
+use crustnewt_tool::dice::Dice;
 
 /// The head of every case.
 pub const HEAD: u64 = 0x0200_0000_0001;

@@ -8,7 +8,7 @@ pub use frames::{judge_read, judge_write};
 pub use on_box::{judge_box, judge_next, BoxLent};
 pub use on_head::{judge_head, HeadLent};
 
-use proved::Refusal;
+use crustnewt::Refusal;
 
 /// What a call left, once it was judged.
 #[derive(Clone, Debug, Default, PartialEq, Eq)]

@@ -6,8 +6,8 @@ use crate::inputs::{address, frame, relight, spoil, within, BOX, HEAD};
 use crate::judge::{
     judge_box, judge_head, judge_next, judge_read, judge_write, BoxLent, HeadLent, Left,
 };
-use crustnewt::dice::Dice;
-use proved::sys::{BOX_WORDS, FRAME_OCTETS, HEAD_WORDS, LINK_WORDS, MESSAGE_WORDS};
+use crustnewt::sys::{BOX_WORDS, FRAME_OCTETS, HEAD_WORDS, LINK_WORDS, MESSAGE_WORDS};
+use crustnewt_tool::dice::Dice;
 
 /// Frames kept to be heard again.
 const KEPT: usize = 16;

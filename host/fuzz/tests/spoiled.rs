@@ -1,7 +1,7 @@
 //! The fuzzer finds a face that breaks a promise, and reaches every number.
 
+use crustnewt::sys::{BoxMemory, HeadMemory};
 use fuzz::{fuzz, BoxCall, Face, HeadCall, Library};
-use proved::sys::{BoxMemory, HeadMemory};
 use std::cell::Cell;
 
 /// What is wrong with a spoiled face.

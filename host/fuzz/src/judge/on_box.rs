@@ -3,7 +3,7 @@
 use super::{both, require, require_number, word, Left, DONE, FILLERS, SHORT, UNSOUND};
 use crate::call::{BoxCall, Face};
 use crate::guarded::Guarded;
-use proved::sys::{BoxMemory, BOX_FRAMES_OCTETS, BOX_REPLY_WORDS, BOX_WORDS, FRAME_OCTETS};
+use crustnewt::sys::{BoxMemory, BOX_FRAMES_OCTETS, BOX_REPLY_WORDS, BOX_WORDS, FRAME_OCTETS};
 
 /// A block, and how much is lent: words, octets, words.
 #[derive(Clone, Debug, PartialEq, Eq)]

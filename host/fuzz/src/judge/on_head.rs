@@ -3,7 +3,9 @@
 use super::{both, require, require_number, word, Left, DONE, FILLERS, SHORT, UNSOUND};
 use crate::call::{Face, HeadCall};
 use crate::guarded::Guarded;
-use proved::sys::{HeadMemory, FRAME_OCTETS, HEAD_REPLY_WORDS, HEAD_WORDS, LINK_WORDS, MOST_LINKS};
+use crustnewt::sys::{
+    HeadMemory, FRAME_OCTETS, HEAD_REPLY_WORDS, HEAD_WORDS, LINK_WORDS, MOST_LINKS,
+};
 
 /// A head and its table, and how much is lent: words, words, octets, words.
 #[derive(Clone, Debug, PartialEq, Eq)]

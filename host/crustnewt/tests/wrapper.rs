@@ -1,17 +1,17 @@
 //! The wrapper in use; answers worked by hand from document 01.
 
-use proved::{
-    AckFlag, Body, BoxNotice, BoxState, FloorBox, Frame, Grant, Granted, Head, HeadNotice,
-    HeadNoticeKind, Light, LinkState, Message, Next, OpenWindow, Refusal, RegisterFlag,
-    RequestFlag, Table, Window,
+use crustnewt::{
+    AckFlag, ArrayTable, Body, BoxNotice, BoxState, FloorBox, Frame, Grant, Granted, Head,
+    HeadNotice, HeadNoticeKind, Light, LinkState, Message, Next, OpenWindow, Refusal, RegisterFlag,
+    RequestFlag, Table, UpTo, VecTable, Window,
 };
 
 const HEAD: u64 = 0x0200_0000_0001;
 const BOX: u64 = 0x0200_0000_0031;
 const EVERYONE: u64 = 0x0180_C200_0001;
 
-fn head(links: usize) -> Head {
-    Head::fresh(HEAD, Table::new(links).unwrap()).unwrap()
+fn head<const LINKS: usize>() -> Head<ArrayTable<LINKS>> {
+    Head::fresh(HEAD, ArrayTable::new()).unwrap()
 }
 
 fn body(frame: &Frame) -> Body {
@@ -20,7 +20,7 @@ fn body(frame: &Frame) -> Body {
 
 /// A box that has heard of a window at count 0, sync 0 and length 74, and has
 /// asked in it; and its request.
-fn asked(head: &mut Head) -> (FloorBox, Frame) {
+fn asked<T: Table>(head: &mut Head<T>) -> (FloorBox, Frame) {
     let mut floor_box = FloorBox::fresh(BOX).unwrap();
     floor_box.register().unwrap();
     let asked = OpenWindow {
@@ -32,7 +32,7 @@ fn asked(head: &mut Head) -> (FloorBox, Frame) {
         window: 100,
     };
     let sent = head.open_window(&asked).unwrap();
-    floor_box.hear(&sent.frames[0], 0).unwrap();
+    floor_box.hear(&sent.frames()[0], 0).unwrap();
     for _ in 0..31 {
         assert!(floor_box.tick().unwrap().frames().is_empty());
         head.tick().unwrap();
@@ -40,23 +40,24 @@ fn asked(head: &mut Head) -> (FloorBox, Frame) {
     head.tick().unwrap();
     let reply = floor_box.tick().unwrap();
     assert!(reply.notices().eq([BoxNotice::Window]));
-    (floor_box, reply.frames()[0])
+    let request = reply.frames()[0];
+    (floor_box, request)
 }
 
 #[test]
 fn a_pair_registers_and_parts() {
-    let mut head = head(2);
+    let mut head = head::<2>();
     let (mut floor_box, request) = asked(&mut head);
     assert_eq!(floor_box.parts().light, Light::Asking { left: 42 });
     let control = floor_box.next_to_send(&request, &[]);
     assert_eq!(control, Next::Control(&request));
 
-    let notice = head.hear(0, &request).unwrap().notice;
+    let notice = head.hear(0, &request).unwrap().notice();
     let (link, trip) = (0, 0);
     let kind = HeadNoticeKind::Request;
     assert_eq!(notice, Some(HeadNotice { kind, link, trip }));
-    let register = head.admit(BOX, 16, 10).unwrap().frames[0];
-    assert_eq!(head.table().link(1).unwrap().state, LinkState::Waiting);
+    let register = head.admit(BOX, 16, 10).unwrap().frames()[0];
+    assert_eq!(head.link(1).unwrap().state, LinkState::Waiting);
 
     let reply = floor_box.hear(&register, 0).unwrap();
     assert!(reply.notices().eq([BoxNotice::Registered]));
@@ -66,34 +67,35 @@ fn a_pair_registers_and_parts() {
     let (flag, port, sync) = (AckFlag::Ack, 1, 10);
     assert_eq!(body(ack), Body::RegisterAck { flag, port, sync });
     assert_eq!(body(report), Body::Report);
+    assert_eq!(head.hear(1, ack).unwrap().frames().len(), 1);
+    let kind = HeadNoticeKind::Report;
+    let heard = head.hear(1, report).unwrap();
+    assert_eq!(heard.notice().unwrap().kind, kind);
     assert_eq!(floor_box.state(), BoxState::Registered);
 
-    assert_eq!(head.hear(1, ack).unwrap().frames.len(), 1);
-    let kind = HeadNoticeKind::Report;
-    assert_eq!(head.hear(1, report).unwrap().notice.unwrap().kind, kind);
-    let farewell = head.deregister(1).unwrap().frames[0];
+    let farewell = head.deregister(1).unwrap().frames()[0];
     floor_box.hear(&farewell, 0).unwrap();
     assert_eq!(floor_box.state(), BoxState::Wait);
 }
 
 #[test]
 fn a_grant_is_told_and_lit() {
-    let mut head = head(1);
+    let mut head = head::<1>();
     let (mut floor_box, request) = asked(&mut head);
     head.hear(0, &request).unwrap();
-    let register = head.admit(BOX, 16, 0).unwrap().frames[0];
+    let register = head.admit(BOX, 16, 0).unwrap().frames()[0];
     floor_box.hear(&register, 0).unwrap();
     let grant = Grant {
         start: floor_box.count().wrapping_add(100),
         length: 200,
     };
-    let gate = head.gate(1, &[grant], 1).unwrap().frames[0];
+    let gate = head.gate(1, &[grant], 1).unwrap().frames()[0];
     let reply = floor_box.hear(&gate, 0).unwrap();
     let force = true;
     assert!(reply
         .notices()
         .eq([BoxNotice::Grant(Granted { grant, force })]));
-    assert_eq!(floor_box.parts().grants, [grant]);
+    assert_eq!(*floor_box.parts().grants, [grant]);
     // The request's 42 ticks of light end first; the wait begins then.
     for _ in 0..100 {
         floor_box.tick().unwrap();
@@ -106,7 +108,7 @@ fn a_grant_is_told_and_lit() {
 
 #[test]
 fn drift_is_signed() {
-    let mut head = head(1);
+    let mut head = head::<1>();
     let (mut floor_box, _) = asked(&mut head);
     let flag = RegisterFlag::Nack;
     let (port, sync, pending) = (0, 0, 16);
@@ -116,91 +118,164 @@ fn drift_is_signed() {
         sync,
         pending,
     };
-    let message = Message::new(BOX, HEAD, 30, &nack).unwrap();
+    let message = Message::new(BOX, HEAD, 30, &nack);
     let reply = floor_box.hear(&message.write().unwrap(), 0).unwrap();
     assert_eq!(reply.drift(), -2);
     assert!(reply.notices().eq([BoxNotice::Refused]));
 }
 
 #[test]
+fn a_reply_tells_nothing_of_the_one_before() {
+    let mut head = head::<1>();
+    let (mut floor_box, request) = asked(&mut head);
+    let quiet = floor_box.tick().unwrap();
+    assert!(quiet.frames().is_empty() && quiet.notices().next().is_none());
+    assert_eq!(quiet.drift(), 0);
+    assert!(head.hear(0, &request).unwrap().notice().is_some());
+    assert_eq!(head.tick().unwrap().notice(), None);
+}
+
+#[test]
 fn what_is_stored_can_be_restored_if_it_is_sound() {
-    let mut head = head(3);
+    let mut head = head::<3>();
     let (floor_box, _) = asked(&mut head);
     let mut parts = floor_box.parts();
-    assert_eq!(FloorBox::restored(&parts), Ok(floor_box));
-    assert_eq!(FloorBox::from_words(*floor_box.words()), Ok(floor_box));
+    let stored = Ok(floor_box.clone());
+    assert_eq!(FloorBox::restored(&parts), stored);
+    assert_eq!(FloorBox::from_words(*floor_box.words()), stored);
+    let mut words = *floor_box.words();
+    words[28] = 1;
+    assert_eq!(FloorBox::from_words(words), Err(Refusal::Unsound));
     parts.wait = 0;
     assert_eq!(FloorBox::restored(&parts), Err(Refusal::Unsound));
-    parts.grants = vec![Grant::default(); 17];
-    assert_eq!(FloorBox::restored(&parts), Err(Refusal::Unsound));
 
-    let links: Vec<_> = head.table().links().collect();
-    let table = Table::of(&links).unwrap();
+    let links: Vec<_> = head.links().map(|link| link.words()).collect();
+    assert_eq!(links.as_flattened(), head.table().words());
+    let table = VecTable::from_words(links).unwrap();
     let mut parts = head.parts();
     assert_eq!(parts.window, Window::Inside { left: 68 });
     let again = Head::restored(&parts, table.clone()).unwrap();
     assert_eq!(again.words(), head.words());
-    assert_eq!(again.table(), head.table());
+    assert!(again.links().eq(head.links()));
     parts.window = Window::Inside { left: 131_073 };
     let unsound = Head::restored(&parts, table);
     assert_eq!(unsound.unwrap_err(), Refusal::Unsound);
 }
 
 #[test]
+fn every_state_is_judged_and_none_is_changed_by_it() {
+    for state in 0..4 {
+        let mut floor_box = FloorBox::fresh(BOX).unwrap();
+        if state > 0 {
+            floor_box.register().unwrap();
+        }
+        let mut parts = floor_box.parts();
+        if state == 2 {
+            (parts.state, parts.wait) = (BoxState::Requesting, 1);
+        }
+        if state == 3 {
+            (parts.state, parts.watchdog, parts.report) = (BoxState::Registered, 1, 1);
+        }
+        assert_eq!(FloorBox::restored(&parts).unwrap().parts(), parts);
+        parts.address = 0;
+        assert_eq!(FloorBox::restored(&parts), Err(Refusal::Unsound));
+    }
+}
+
+#[test]
 fn refusals_have_their_names_and_change_nothing() {
     assert_eq!(FloorBox::fresh(EVERYONE), Err(Refusal::Range));
-    let table = Table::new(1).unwrap();
+    let table = VecTable::new(1).unwrap();
     assert_eq!(Head::fresh(1 << 48, table).unwrap_err(), Refusal::Range);
-    assert!(Table::new(0).is_none() && Table::new(65).is_none());
+    for links in [0, 65, usize::MAX] {
+        assert!(VecTable::new(links).is_none());
+    }
 
     let mut floor_box = FloorBox::fresh(BOX).unwrap();
-    let before = floor_box;
+    let before = floor_box.clone();
     assert_eq!(floor_box.deregister(), Err(Refusal::State));
     assert_eq!(floor_box.hear(&[0; 59], 0), Err(Refusal::Size));
     assert_eq!(floor_box, before);
 
-    let mut head = head(1);
+    let mut head = head::<1>();
     assert_eq!(head.reregister(1, 0), Err(Refusal::Link));
     assert_eq!(head.admit(HEAD, 0, 65_536), Err(Refusal::Range));
     head.admit(BOX, 0, 0).unwrap();
     assert_eq!(head.admit(BOX, 0, 0), Err(Refusal::Held));
     assert_eq!(head.reject(0, 0, 0), Err(Refusal::Range));
     assert_eq!(head.admit(HEAD, 0, 0), Err(Refusal::Full));
-    let grants = [Grant::default(); 5];
-    assert_eq!(head.gate(1, &grants, 0), Err(Refusal::Grant));
     let told = Refusal::Full.to_string();
     assert_eq!(told, "every link is held (11)");
+}
+
+#[test]
+fn a_gate_has_four_grants_at_most() {
+    let mut head = head::<1>();
+    let (floor_box, request) = asked(&mut head);
+    head.hear(0, &request).unwrap();
+    let register = head.admit(BOX, 16, 0).unwrap().frames()[0];
+    let ack = floor_box.clone().hear(&register, 0).unwrap().frames()[0];
+    head.hear(1, &ack).unwrap();
+    let grants = [1, 2, 3, 4, 5, 6].map(|start| Grant { start, length: 74 });
+    for number in 0..=4 {
+        let force = 0b0101 & ((1 << number) - 1);
+        let sent = head.gate(1, &grants[..number], force).unwrap();
+        let Body::Gate(told) = body(&sent.frames()[0]) else {
+            panic!("{sent:?}")
+        };
+        let starts = told.iter().map(|it| (it.grant.start, it.force));
+        let expected = [(1, true), (2, false), (3, true), (4, false)];
+        assert!(starts.eq(expected[..number].iter().copied()));
+    }
+    for number in [5, 6] {
+        assert_eq!(head.gate(1, &grants[..number], 0), Err(Refusal::Grant));
+    }
+    assert_eq!(UpTo::<Grant, 4>::of(&grants), None);
 }
 
 #[test]
 fn messages_go_to_octets_and_back() {
     let granted = Granted {
         grant: Grant {
-            start: 7,
-            length: 74,
+            start: u32::MAX,
+            length: 65_535,
         },
         force: true,
     };
-    let (flag, pending) = (RequestFlag::Deregister, 3);
+    let (request, pending) = (RequestFlag::Deregister, 3);
+    let (port, sync) = (64, 9);
     for body in [
-        Body::Gate(vec![]),
-        Body::Gate(vec![granted; 4]),
-        Body::Discovery { granted, sync: 9 },
+        Body::Gate([].into()),
+        Body::Gate([granted, Granted::default(), granted].into()),
+        Body::Gate([granted; 4].into()),
+        Body::Discovery { granted, sync },
         Body::Report,
-        Body::RegisterReq { flag, pending },
+        Body::RegisterReq {
+            flag: request,
+            pending,
+        },
+        Body::Register {
+            flag: RegisterFlag::Reregister,
+            port,
+            sync,
+            pending,
+        },
+        Body::RegisterAck {
+            flag: AckFlag::Nack,
+            port,
+            sync,
+        },
     ] {
-        let message = Message::new(EVERYONE, BOX, 5, &body).unwrap();
+        let message = Message::new(EVERYONE, BOX, 5, &body);
         let read = Message::read(&message.write().unwrap()).unwrap();
         assert_eq!(read, message);
         assert_eq!(read.body(), body);
         assert_eq!((read.to(), read.from(), read.stamp()), (EVERYONE, BOX, 5));
     }
-    let five = Body::Gate(vec![granted; 5]);
-    assert_eq!(Message::new(EVERYONE, BOX, 5, &five), None);
     let wide = Body::Discovery {
         granted,
         sync: 65_536,
     };
-    let wide = Message::new(EVERYONE, BOX, 5, &wide).unwrap();
+    let wide = Message::new(EVERYONE, BOX, 5, &wide);
     assert_eq!(wide.write(), Err(Refusal::Range));
 }

@@ -1,12 +1,12 @@
 //! Parts and messages turned into the structs of `plain`, and back.
 
-use crate::{
+use crustnewt::{
     AckFlag, Body, BoxNotice, BoxParts, BoxState, Grant, Granted, HeadNotice, HeadNoticeKind,
-    HeadParts, Light, Link, LinkState, Message, RegisterFlag, RequestFlag, Window,
+    HeadParts, Light, Link, LinkState, Message, RegisterFlag, RequestFlag, UpTo, Window,
 };
 use plain::{Address, Count, Gate, GrantList};
 
-/// Something of this crate or of `plain`, as the other has it.
+/// Something of `crustnewt` or of `plain`, as the other has it.
 pub(super) trait Turn<T> {
     fn turn(self) -> T;
 }
@@ -185,29 +185,46 @@ impl Turn<u32> for Count {
     }
 }
 
-impl Turn<GrantList> for Vec<Grant> {
+impl Turn<u64> for usize {
+    fn turn(self) -> u64 {
+        self as u64
+    }
+}
+
+impl Turn<usize> for u64 {
+    fn turn(self) -> usize {
+        usize::try_from(self).expect("a link number is small")
+    }
+}
+
+/// Both lists have as many places.
+const ROOM: &str = "there is room for as many";
+
+impl<const MOST: usize> Turn<GrantList> for UpTo<Grant, MOST> {
     fn turn(self) -> GrantList {
-        let grants: Vec<plain::Grant> = self.into_iter().map(Turn::turn).collect();
-        GrantList::of(&grants).expect("a block has room for 16 grants")
+        let grants: Vec<plain::Grant> = self.iter().map(|&grant| grant.turn()).collect();
+        GrantList::of(&grants).expect(ROOM)
     }
 }
 
-impl Turn<Vec<Grant>> for GrantList {
-    fn turn(self) -> Vec<Grant> {
-        self.as_slice().iter().map(|&grant| grant.turn()).collect()
+impl<const MOST: usize> Turn<UpTo<Grant, MOST>> for GrantList {
+    fn turn(self) -> UpTo<Grant, MOST> {
+        let grants: Vec<Grant> = self.as_slice().iter().map(|&grant| grant.turn()).collect();
+        UpTo::of(&grants).expect(ROOM)
     }
 }
 
-impl Turn<Gate> for Vec<Granted> {
+impl<const MOST: usize> Turn<Gate> for UpTo<Granted, MOST> {
     fn turn(self) -> Gate {
-        let grants: Vec<plain::Granted> = self.into_iter().map(Turn::turn).collect();
-        Gate::of(&grants).expect("a GATE has four grants at most")
+        let grants: Vec<plain::Granted> = self.iter().map(|&granted| granted.turn()).collect();
+        Gate::of(&grants).expect(ROOM)
     }
 }
 
-impl Turn<Vec<Granted>> for Gate {
-    fn turn(self) -> Vec<Granted> {
-        self.iter().map(Turn::turn).collect()
+impl<const MOST: usize> Turn<UpTo<Granted, MOST>> for Gate {
+    fn turn(self) -> UpTo<Granted, MOST> {
+        let grants: Vec<Granted> = self.iter().map(Turn::turn).collect();
+        UpTo::of(&grants).expect(ROOM)
     }
 }
 
@@ -224,8 +241,6 @@ impl Turn<plain::Message> for Message {
 
 impl Turn<Message> for plain::Message {
     fn turn(self) -> Message {
-        let body = self.body.turn();
-        let message = Message::new(self.to.0, self.from.0, self.stamp.0, &body);
-        message.expect("a GATE has four grants at most")
+        Message::new(self.to.0, self.from.0, self.stamp.0, &self.body.turn())
     }
 }

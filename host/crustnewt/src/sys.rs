@@ -10,13 +10,13 @@
 /// Octets of a frame.
 pub const FRAME_OCTETS: usize = 60;
 /// Words of a message.
-pub const MESSAGE_WORDS: usize = 17;
+pub const MESSAGE_WORDS: usize = 10;
 /// Words of a box's block.
 pub const BOX_WORDS: usize = 29;
 /// Octets of the two frames that a call of the box can hand out.
 pub const BOX_FRAMES_OCTETS: usize = 120;
 /// Words that a call of the box tells.
-pub const BOX_REPLY_WORDS: usize = 18;
+pub const BOX_REPLY_WORDS: usize = 19;
 /// Words of a head's block.
 pub const HEAD_WORDS: usize = 5;
 /// Words of each link of the table.
@@ -24,7 +24,7 @@ pub const LINK_WORDS: usize = 5;
 /// Most links of a table.
 pub const MOST_LINKS: usize = 64;
 /// Words that a call of the head tells.
-pub const HEAD_REPLY_WORDS: usize = 4;
+pub const HEAD_REPLY_WORDS: usize = 5;
 
 /// What a call of the box is lent.
 #[derive(Debug)]
@@ -179,32 +179,38 @@ macro_rules! call_head {
 }
 
 /// `crustnewt_box_fresh`.
+#[inline]
 pub fn box_fresh(address: u64, memory: BoxMemory<'_>) -> u8 {
     call_box!(crustnewt_box_fresh(address), memory)
 }
 
 /// `crustnewt_box_register`.
+#[inline]
 pub fn box_register(memory: BoxMemory<'_>) -> u8 {
     call_box!(crustnewt_box_register(), memory)
 }
 
 /// `crustnewt_box_deregister`.
+#[inline]
 pub fn box_deregister(memory: BoxMemory<'_>) -> u8 {
     call_box!(crustnewt_box_deregister(), memory)
 }
 
 /// `crustnewt_box_hear`.
+#[inline]
 pub fn box_hear(octets: &[u8], random: u32, memory: BoxMemory<'_>) -> u8 {
     let (octets, length) = (octets.as_ptr(), octets.len());
     call_box!(crustnewt_box_hear(octets, length, random), memory)
 }
 
 /// `crustnewt_box_tick`.
+#[inline]
 pub fn box_tick(memory: BoxMemory<'_>) -> u8 {
     call_box!(crustnewt_box_tick(), memory)
 }
 
 /// `crustnewt_box_next_to_send`.
+#[inline]
 pub fn box_next_to_send(block: &[u64], control: &[u8], data: &[u8]) -> u8 {
     // SAFETY: as for a box, and all three are only read.
     unsafe {
@@ -220,6 +226,7 @@ pub fn box_next_to_send(block: &[u64], control: &[u8], data: &[u8]) -> u8 {
 }
 
 /// `crustnewt_head_fresh`, which is lent no output.
+#[inline]
 pub fn head_fresh(address: u64, head: &mut [u64], links: &mut [u64], reply: &mut [u64]) -> u8 {
     // SAFETY: as for a box.
     unsafe {
@@ -236,48 +243,57 @@ pub fn head_fresh(address: u64, head: &mut [u64], links: &mut [u64], reply: &mut
 }
 
 /// `crustnewt_head_open`.
+#[inline]
 pub fn head_open(start: u32, length: u32, sync: u32, window: u32, memory: HeadMemory<'_>) -> u8 {
     call_head!(crustnewt_head_open(start, length, sync, window), memory)
 }
 
 /// `crustnewt_head_admit`.
+#[inline]
 pub fn head_admit(address: u64, pending: u8, sync: u32, memory: HeadMemory<'_>) -> u8 {
     call_head!(crustnewt_head_admit(address, pending, sync), memory)
 }
 
 /// `crustnewt_head_reject`.
+#[inline]
 pub fn head_reject(address: u64, pending: u8, sync: u32, memory: HeadMemory<'_>) -> u8 {
     call_head!(crustnewt_head_reject(address, pending, sync), memory)
 }
 
 /// `crustnewt_head_reregister`.
+#[inline]
 pub fn head_reregister(link: usize, sync: u32, memory: HeadMemory<'_>) -> u8 {
     call_head!(crustnewt_head_reregister(link, sync), memory)
 }
 
 /// `crustnewt_head_deregister`.
+#[inline]
 pub fn head_deregister(link: usize, memory: HeadMemory<'_>) -> u8 {
     call_head!(crustnewt_head_deregister(link), memory)
 }
 
 /// `crustnewt_head_gate`.
+#[inline]
 pub fn head_gate(link: usize, grants: &[u64], force: u8, memory: HeadMemory<'_>) -> u8 {
     let (grants, words) = (grants.as_ptr(), grants.len());
     call_head!(crustnewt_head_gate(link, grants, words, force), memory)
 }
 
 /// `crustnewt_head_hear`.
+#[inline]
 pub fn head_hear(link: usize, octets: &[u8], memory: HeadMemory<'_>) -> u8 {
     let (octets, length) = (octets.as_ptr(), octets.len());
     call_head!(crustnewt_head_hear(link, octets, length), memory)
 }
 
 /// `crustnewt_head_tick`.
+#[inline]
 pub fn head_tick(memory: HeadMemory<'_>) -> u8 {
     call_head!(crustnewt_head_tick(), memory)
 }
 
 /// `crustnewt_read`.
+#[inline]
 pub fn read(octets: &[u8], message: &mut [u64]) -> u8 {
     // SAFETY: as for a box.
     unsafe {
@@ -291,6 +307,7 @@ pub fn read(octets: &[u8], message: &mut [u64]) -> u8 {
 }
 
 /// `crustnewt_write`.
+#[inline]
 pub fn write(message: &[u64], octets: &mut [u8]) -> u8 {
     // SAFETY: as for a box.
     unsafe {

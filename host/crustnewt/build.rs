@@ -13,7 +13,7 @@ fn main() {
             "There is no {}.\n\
              `./night` and `./test` at the repository's root build it, and so does\n\
              `rt staticlib crustnewt` there. If you have it elsewhere, set CRUSTNEWT_LIB to\n\
-             its folder.",
+             the full path of its folder.",
             archive.display()
         );
         std::process::exit(1);

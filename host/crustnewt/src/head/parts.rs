@@ -1,7 +1,7 @@
 //! What a head holds beside its table, and the words that hold it.
 
 use crate::sys::HEAD_WORDS;
-use crate::word::{fit, no_such};
+use crate::word::fit;
 
 /// Everything that a head holds beside its table.
 #[derive(Clone, Copy, Debug, PartialEq, Eq)]
@@ -34,24 +34,27 @@ pub enum Window {
 }
 
 impl HeadParts {
-    pub(crate) fn of_words(words: &[u64; HEAD_WORDS]) -> HeadParts {
+    /// What these words hold; `None` unless they are the very
+    /// [`words`](HeadParts::words) of some parts. Whether the head is sound is
+    /// for the library to say.
+    pub fn of_words(words: &[u64; HEAD_WORDS]) -> Option<HeadParts> {
         let [address, count, window, left, length] = *words;
-        HeadParts {
+        let (left, length) = (fit(left)?, fit(length)?);
+        let parts = HeadParts {
             address,
-            count: fit(count),
+            count: fit(count)?,
             window: match window {
                 0 => Window::Idle,
-                1 => Window::Before {
-                    left: fit(left),
-                    length: fit(length),
-                },
-                2 => Window::Inside { left: fit(left) },
-                word => no_such(word),
+                1 => Window::Before { left, length },
+                2 => Window::Inside { left },
+                _ => return None,
             },
-        }
+        };
+        (parts.words() == *words).then_some(parts)
     }
 
-    pub(crate) fn words(&self) -> [u64; HEAD_WORDS] {
+    /// The words that hold it.
+    pub fn words(&self) -> [u64; HEAD_WORDS] {
         let (window, left, length) = match self.window {
             Window::Idle => (0, 0, 0),
             Window::Before { left, length } => (1, left, length),

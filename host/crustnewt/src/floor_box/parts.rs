@@ -2,7 +2,8 @@
 
 use crate::message::Grant;
 use crate::sys::BOX_WORDS;
-use crate::word::{fit, no_such};
+use crate::up_to::UpTo;
+use crate::word::fit;
 
 /// Everything that a box holds.
 #[derive(Clone, Debug, PartialEq, Eq)]
@@ -25,8 +26,8 @@ pub struct BoxParts {
     pub sync: u32,
     /// The transmitter.
     pub light: Light,
-    /// Grants to come, in order of arrival, 16 at most.
-    pub grants: Vec<Grant>,
+    /// Grants to come, in order of arrival.
+    pub grants: UpTo<Grant, MOST_GRANTS>,
 }
 
 /// State of the box's Discovery process.
@@ -100,7 +101,7 @@ pub enum Light {
 
 const ADDRESS: usize = 0;
 pub(super) const COUNT: usize = 1;
-const STATE: usize = 2;
+pub(super) const STATE: usize = 2;
 const WAIT: usize = 3;
 const WATCHDOG: usize = 4;
 const REPORT: usize = 5;
@@ -110,27 +111,32 @@ const SYNC: usize = 7;
 const LIGHT: usize = 8;
 const GRANTS: usize = 12;
 const LIST: usize = 13;
+const MOST_GRANTS: usize = BOX_WORDS - LIST;
 
 impl BoxParts {
-    pub(crate) fn of_words(words: &[u64; BOX_WORDS]) -> BoxParts {
-        let held = words[LIST..].iter().take(fit(words[GRANTS]));
-        BoxParts {
+    /// What these words hold; `None` unless they are the very
+    /// [`words`](BoxParts::words) of some parts. Whether the box is sound is
+    /// for the library to say.
+    pub fn of_words(words: &[u64; BOX_WORDS]) -> Option<BoxParts> {
+        let list = core::array::from_fn(|place| Grant::of_word(words[LIST + place]));
+        let [phase, left, grant, sync] = core::array::from_fn(|place| words[LIGHT + place]);
+        let parts = BoxParts {
             address: words[ADDRESS],
-            count: fit(words[COUNT]),
-            state: BoxState::of_words(words),
-            wait: fit(words[WAIT]),
-            watchdog: fit(words[WATCHDOG]),
-            report: fit(words[REPORT]),
-            port: fit(words[PORT]),
-            sync: fit(words[SYNC]),
-            light: Light::of_words(&words[LIGHT..GRANTS]),
-            grants: held.map(|&word| Grant::of_word(word)).collect(),
-        }
+            count: fit(words[COUNT])?,
+            state: BoxState::of_word(words[STATE])?,
+            wait: fit(words[WAIT])?,
+            watchdog: fit(words[WATCHDOG])?,
+            report: fit(words[REPORT])?,
+            port: fit(words[PORT])?,
+            sync: fit(words[SYNC])?,
+            light: Light::of_words(phase, fit(left)?, grant, fit(sync)?)?,
+            grants: UpTo::first(fit(words[GRANTS])?, list)?,
+        };
+        (parts.words() == *words).then_some(parts)
     }
 
-    /// The words; `None` where there are more grants than the list has room
-    /// for.
-    pub(crate) fn words(&self) -> Option<[u64; BOX_WORDS]> {
+    /// The words that hold it.
+    pub fn words(&self) -> [u64; BOX_WORDS] {
         let mut words = [0; BOX_WORDS];
         words[ADDRESS] = self.address;
         words[COUNT] = self.count.into();
@@ -142,30 +148,39 @@ impl BoxParts {
         words[SYNC] = self.sync.into();
         words[LIGHT..GRANTS].copy_from_slice(&self.light.words());
         words[GRANTS] = self.grants.len() as u64;
-        let places = words[LIST..].get_mut(..self.grants.len())?;
-        for (word, grant) in places.iter_mut().zip(&self.grants) {
+        for (word, grant) in words[LIST..].iter_mut().zip(&*self.grants) {
             *word = grant.word();
         }
-        Some(words)
+        words
     }
 }
 
 impl BoxState {
-    pub(crate) fn of_words(words: &[u64; BOX_WORDS]) -> BoxState {
-        match words[STATE] {
+    #[inline]
+    pub(super) fn of_word(word: u64) -> Option<BoxState> {
+        Some(match word {
             0 => BoxState::Wait,
             1 => BoxState::Registering,
             2 => BoxState::Requesting,
             3 => BoxState::Registered,
-            word => no_such(word),
-        }
+            _ => return None,
+        })
     }
 }
 
 impl Light {
     /// Ticks left of what the transmitter does, 0 at rest.
     pub fn left(&self) -> u32 {
-        fit(self.words()[1])
+        match *self {
+            Light::Rest => 0,
+            Light::Before { left, .. }
+            | Light::Random { left, .. }
+            | Light::Warming { left }
+            | Light::Asking { left }
+            | Light::Due { left, .. }
+            | Light::Lit { left, .. }
+            | Light::Open { left } => left,
+        }
     }
 
     /// Whether the laser is on.
@@ -176,36 +191,28 @@ impl Light {
         )
     }
 
-    /// What the phase doesn't hold isn't looked at.
-    fn of_words(words: &[u64]) -> Light {
-        let left = || fit(words[1]);
-        let (grant, sync) = (words[2], || fit(words[3]));
-        match words[0] {
+    /// What a phase doesn't hold is left to [`BoxParts::of_words`].
+    fn of_words(phase: u64, left: u32, grant: u64, sync: u32) -> Option<Light> {
+        Some(match phase {
             0 => Light::Rest,
-            1 => Light::Before {
-                left: left(),
-                random: fit(grant),
-                sync: sync(),
-            },
-            2 => Light::Random {
-                left: left(),
-                sync: sync(),
-            },
-            3 => Light::Warming { left: left() },
-            4 => Light::Asking { left: left() },
-            5 => Light::Due {
-                left: left(),
-                grant: Grant::of_word(grant),
-                sync: sync(),
-            },
-            6 => Light::Lit {
-                left: left(),
-                length: fit(grant),
-                sync: sync(),
-            },
-            7 => Light::Open { left: left() },
-            phase => no_such(phase),
-        }
+            1 => {
+                let random = fit(grant)?;
+                Light::Before { left, random, sync }
+            }
+            2 => Light::Random { left, sync },
+            3 => Light::Warming { left },
+            4 => Light::Asking { left },
+            5 => {
+                let grant = Grant::of_word(grant);
+                Light::Due { left, grant, sync }
+            }
+            6 => {
+                let length = fit(grant)?;
+                Light::Lit { left, length, sync }
+            }
+            7 => Light::Open { left },
+            _ => return None,
+        })
     }
 
     fn words(&self) -> [u64; 4] {

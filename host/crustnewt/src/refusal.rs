@@ -1,6 +1,7 @@
 //! The service card's numbers above 0.
 
-use std::fmt;
+use crate::word::sure;
+use core::fmt;
 
 /// Why a call was refused; the value is the number.
 #[derive(Clone, Copy, Debug, PartialEq, Eq, Hash)]
@@ -69,16 +70,18 @@ impl Refusal {
     }
 
     /// What the library's number says of a call.
-    ///
-    /// # Panics
-    ///
-    /// If it is no number of the card: the library answers no other.
+    #[inline]
     pub(crate) fn judge(number: u8) -> Result<(), Refusal> {
         match number {
             0 => Ok(()),
-            _ => Err(Refusal::of(number)
-                .unwrap_or_else(|| panic!("the library answered {number}, which is no number"))),
+            _ => Err(Refusal::sure(number)),
         }
+    }
+
+    /// The library answers no number that isn't of the card.
+    #[cold]
+    fn sure(number: u8) -> Refusal {
+        sure(Refusal::of(number))
     }
 }
 
@@ -105,4 +108,4 @@ impl fmt::Display for Refusal {
     }
 }
 
-impl std::error::Error for Refusal {}
+impl core::error::Error for Refusal {}

@@ -2,7 +2,8 @@
 
 use crate::refusal::Refusal;
 use crate::sys::{self, FRAME_OCTETS, MESSAGE_WORDS};
-use crate::word::{bit, fit, no_such};
+use crate::up_to::UpTo;
+use crate::word::{bit, fit, sure};
 
 /// Sixty octets as they go over the fibre, without check sequence.
 pub type Frame = [u8; FRAME_OCTETS];
@@ -13,8 +14,7 @@ pub type Frame = [u8; FRAME_OCTETS];
 /// them.
 #[derive(Clone, Copy, Debug, PartialEq, Eq)]
 pub struct Message {
-    /// Judged by the library.
-    pub(crate) words: [u64; MESSAGE_WORDS],
+    words: [u64; MESSAGE_WORDS],
 }
 
 /// A start and a length: when a box may light its laser, and for how long.
@@ -36,10 +36,10 @@ pub struct Granted {
 }
 
 /// What a control message says.
-#[derive(Clone, Debug, PartialEq, Eq)]
+#[derive(Clone, Copy, Debug, PartialEq, Eq)]
 pub enum Body {
-    /// A normal GATE of up to four grants.
-    Gate(Vec<Granted>),
+    /// A normal GATE.
+    Gate(UpTo<Granted, MOST_GRANTS>),
     /// A discovery GATE.
     Discovery {
         /// Its one grant.
@@ -109,13 +109,8 @@ pub enum AckFlag {
     Ack = 1,
 }
 
-const DESTINATION: usize = 0;
-const SOURCE: usize = 1;
-const TIMESTAMP: usize = 2;
-const KIND: usize = 3;
-const BODY: usize = 4;
-/// Words of a grant with its force bit.
-const GRANTED: usize = 3;
+/// Grants of a GATE.
+const MOST_GRANTS: usize = 4;
 
 /// Numbers of the kinds.
 const GATE: u64 = 0;
@@ -125,21 +120,20 @@ const REGISTER_REQ: u64 = 3;
 const REGISTER: u64 = 4;
 const REGISTER_ACK: u64 = 5;
 
+/// Words of a body, behind destination, source, timestamp and kind.
+const BODY_WORDS: usize = MESSAGE_WORDS - 4;
+
 impl Message {
-    /// A message; `None` for a GATE of more than four grants, which has no
-    /// words. Whether its fields are in range is the writer's to say.
-    pub fn new(to: u64, from: u64, stamp: u32, body: &Body) -> Option<Message> {
-        let (kind, said) = body_words(body);
-        let mut words = [0; MESSAGE_WORDS];
-        words[DESTINATION] = to;
-        words[SOURCE] = from;
-        words[TIMESTAMP] = stamp.into();
-        words[KIND] = kind;
-        words[BODY..].get_mut(..said.len())?.copy_from_slice(&said);
-        Some(Message { words })
+    /// A message. Whether its fields are in range is the writer's to say.
+    pub fn new(to: u64, from: u64, stamp: u32, body: &Body) -> Message {
+        let (kind, [a, b, c, d, e, f]) = body.words();
+        Message {
+            words: [to, from, stamp.into(), kind, a, b, c, d, e, f],
+        }
     }
 
     /// Reads a frame: any octets, of any number.
+    #[inline]
     pub fn read(octets: &[u8]) -> Result<Message, Refusal> {
         let mut words = [0; MESSAGE_WORDS];
         Refusal::judge(sys::read(octets, &mut words))?;
@@ -147,6 +141,7 @@ impl Message {
     }
 
     /// Writes the frame; [`Refusal::Range`] where a field is outside its range.
+    #[inline]
     pub fn write(&self) -> Result<Frame, Refusal> {
         let mut frame = [0; FRAME_OCTETS];
         Refusal::judge(sys::write(&self.words, &mut frame))?;
@@ -154,129 +149,143 @@ impl Message {
     }
 
     /// Destination.
+    #[inline]
     pub fn to(&self) -> u64 {
-        self.words[DESTINATION]
+        self.words[0]
     }
 
     /// Source.
+    #[inline]
     pub fn from(&self) -> u64 {
-        self.words[SOURCE]
+        self.words[1]
     }
 
     /// The sender's count.
+    #[inline]
     pub fn stamp(&self) -> u32 {
-        fit(self.words[TIMESTAMP])
+        self.words[2] as u32
+    }
+
+    /// Its words, as the C face has them.
+    #[inline]
+    pub fn words(&self) -> &[u64; MESSAGE_WORDS] {
+        &self.words
     }
 
     /// What it says.
     pub fn body(&self) -> Body {
-        let said = &self.words[BODY..];
-        match self.words[KIND] {
+        let [_, _, _, kind, a, b, c, d, e, f] = self.words;
+        sure(Body::of_words(kind, [a, b, c, d, e, f]))
+    }
+}
+
+impl Body {
+    /// Its kind and words.
+    fn words(&self) -> (u64, [u64; BODY_WORDS]) {
+        match *self {
+            Body::Gate(ref grants) => {
+                let mut words = [grants.len() as u64, 0, 0, 0, 0, 0];
+                for (place, granted) in grants.iter().enumerate() {
+                    words[1] |= u64::from(granted.force) << place;
+                    words[2 + place] = granted.grant.word();
+                }
+                (GATE, words)
+            }
+            Body::Discovery { granted, sync } => {
+                let Granted { grant, force } = granted;
+                (
+                    DISCOVERY,
+                    [sync.into(), force.into(), grant.word(), 0, 0, 0],
+                )
+            }
+            Body::Report => (REPORT, [0; BODY_WORDS]),
+            Body::RegisterReq { flag, pending } => {
+                (REGISTER_REQ, [flag as u64, pending.into(), 0, 0, 0, 0])
+            }
+            Body::Register {
+                flag,
+                port,
+                sync,
+                pending,
+            } => {
+                let [port, sync, pending] = [port.into(), sync.into(), pending.into()];
+                (REGISTER, [flag as u64, port, sync, pending, 0, 0])
+            }
+            Body::RegisterAck { flag, port, sync } => {
+                let [port, sync] = [port.into(), sync.into()];
+                (REGISTER_ACK, [flag as u64, port, sync, 0, 0, 0])
+            }
+        }
+    }
+
+    /// What these words say; `None` where they are no body's.
+    fn of_words(kind: u64, words: [u64; BODY_WORDS]) -> Option<Body> {
+        let [a, b, c, d, e, f] = words;
+        let granted = |place: usize, grant| Granted {
+            grant: Grant::of_word(grant),
+            force: b >> place & 1 == 1,
+        };
+        Some(match kind {
             GATE => {
-                let grants = said[1..].chunks_exact(GRANTED).take(fit(said[0]));
-                Body::Gate(grants.map(Granted::of_words).collect())
+                let grants = [granted(0, c), granted(1, d), granted(2, e), granted(3, f)];
+                Body::Gate(UpTo::first(fit(a)?, grants)?)
             }
             DISCOVERY => Body::Discovery {
-                granted: Granted::of_words(&said[1..]),
-                sync: fit(said[0]),
-            },
-            REGISTER_REQ => Body::RegisterReq {
-                flag: RequestFlag::of_word(said[0]),
-                pending: fit(said[1]),
-            },
-            REGISTER => Body::Register {
-                flag: RegisterFlag::of_word(said[0]),
-                port: fit(said[1]),
-                sync: fit(said[2]),
-                pending: fit(said[3]),
-            },
-            REGISTER_ACK => Body::RegisterAck {
-                flag: AckFlag::of_word(said[0]),
-                port: fit(said[1]),
-                sync: fit(said[2]),
+                granted: Granted {
+                    grant: Grant::of_word(c),
+                    force: bit(b)?,
+                },
+                sync: fit(a)?,
             },
             REPORT => Body::Report,
-            kind => no_such(kind),
-        }
-    }
-}
-
-/// A body's kind and words.
-fn body_words(body: &Body) -> (u64, Vec<u64>) {
-    match body {
-        Body::Gate(grants) => {
-            let number = [grants.len() as u64];
-            let words = grants.iter().flat_map(Granted::words);
-            (GATE, number.into_iter().chain(words).collect())
-        }
-        Body::Discovery { granted, sync } => {
-            let words = [(*sync).into()].into_iter().chain(granted.words());
-            (DISCOVERY, words.collect())
-        }
-        Body::Report => (REPORT, Vec::new()),
-        Body::RegisterReq { flag, pending } => {
-            (REGISTER_REQ, vec![*flag as u64, (*pending).into()])
-        }
-        Body::Register {
-            flag,
-            port,
-            sync,
-            pending,
-        } => {
-            let numbers = [(*port).into(), (*sync).into(), (*pending).into()];
-            (REGISTER, [&[*flag as u64][..], &numbers].concat())
-        }
-        Body::RegisterAck { flag, port, sync } => {
-            let words = vec![*flag as u64, (*port).into(), (*sync).into()];
-            (REGISTER_ACK, words)
-        }
-    }
-}
-
-impl Granted {
-    fn words(&self) -> [u64; GRANTED] {
-        let Grant { start, length } = self.grant;
-        [start.into(), length.into(), self.force.into()]
-    }
-
-    /// Of start, length and force bit.
-    pub(crate) fn of_words(words: &[u64]) -> Granted {
-        let (start, length) = (fit(words[0]), fit(words[1]));
-        Granted {
-            grant: Grant { start, length },
-            force: bit(words[2]),
-        }
+            REGISTER_REQ => Body::RegisterReq {
+                flag: RequestFlag::of_word(a)?,
+                pending: fit(b)?,
+            },
+            REGISTER => Body::Register {
+                flag: RegisterFlag::of_word(a)?,
+                port: fit(b)?,
+                sync: fit(c)?,
+                pending: fit(d)?,
+            },
+            REGISTER_ACK => Body::RegisterAck {
+                flag: AckFlag::of_word(a)?,
+                port: fit(b)?,
+                sync: fit(c)?,
+            },
+            _ => return None,
+        })
     }
 }
 
 impl RequestFlag {
-    fn of_word(word: u64) -> RequestFlag {
-        match word {
+    fn of_word(word: u64) -> Option<RequestFlag> {
+        Some(match word {
             1 => RequestFlag::Register,
             3 => RequestFlag::Deregister,
-            _ => no_such(word),
-        }
+            _ => return None,
+        })
     }
 }
 
 impl RegisterFlag {
-    fn of_word(word: u64) -> RegisterFlag {
-        match word {
+    fn of_word(word: u64) -> Option<RegisterFlag> {
+        Some(match word {
             1 => RegisterFlag::Reregister,
             2 => RegisterFlag::Deregister,
             3 => RegisterFlag::Ack,
             4 => RegisterFlag::Nack,
-            _ => no_such(word),
-        }
+            _ => return None,
+        })
     }
 }
 
 impl AckFlag {
-    fn of_word(word: u64) -> AckFlag {
-        match word {
+    fn of_word(word: u64) -> Option<AckFlag> {
+        Some(match word {
             0 => AckFlag::Nack,
             1 => AckFlag::Ack,
-            _ => no_such(word),
-        }
+            _ => return None,
+        })
     }
 }

@@ -6,20 +6,24 @@ mod table;
 
 use crate::message::Grant;
 use crate::refusal::Refusal;
-use crate::sys::{self, HeadMemory, FRAME_OCTETS, HEAD_REPLY_WORDS, HEAD_WORDS};
+use crate::sys::{self, HeadMemory, HEAD_REPLY_WORDS, HEAD_WORDS};
+use crate::word::sure;
+use core::fmt;
 
 pub use parts::{HeadParts, Window};
 pub use reply::{HeadNotice, HeadNoticeKind, HeadReply};
-pub use table::{Link, LinkState, Table};
+#[cfg(feature = "std")]
+pub use table::VecTable;
+pub use table::{ArrayTable, Link, LinkState, Table};
 
-/// A head with its table. It owns their words, and the output that its calls
-/// write their frames into.
-#[derive(Clone, Debug)]
-pub struct Head {
-    /// Words, table and output are judged by whoever sets them.
-    pub(crate) words: [u64; HEAD_WORDS],
-    pub(crate) table: Table,
-    pub(crate) output: Vec<u8>,
+/// A head over the memory of its table. It owns its block, and the words that
+/// its calls tell their replies in.
+#[derive(Clone)]
+pub struct Head<T> {
+    /// A sound head's, and a sound table's.
+    words: [u64; HEAD_WORDS],
+    table: T,
+    reply: [u64; HEAD_REPLY_WORDS],
 }
 
 /// A discovery window to open.
@@ -33,50 +37,49 @@ pub struct OpenWindow {
     pub window: u32,
 }
 
-impl Head {
+/// Grants of a GATE. One more is enough to be refused, and none is lent beyond
+/// that.
+const MOST_GRANTS: usize = 4;
+
+impl<T: Table> Head<T> {
     /// A head that has not begun: count 0, window idle. Every link of the table
     /// is idle then.
     ///
     /// [`Refusal::Range`] for an address that is zero, a group's or above 48
     /// bits.
-    pub fn fresh(address: u64, table: Table) -> Result<Head, Refusal> {
+    pub fn fresh(address: u64, table: T) -> Result<Head<T>, Refusal> {
         let mut made = Head::over([0; HEAD_WORDS], table);
-        made.renew(address)?;
+        made.call(|memory| sys::head_fresh(address, memory.head, memory.links, memory.reply))?;
         Ok(made)
     }
 
     /// A head that was stored, with its table; [`Refusal::Unsound`] where they
     /// aren't sound.
-    pub fn restored(parts: &HeadParts, table: Table) -> Result<Head, Refusal> {
+    pub fn restored(parts: &HeadParts, table: T) -> Result<Head<T>, Refusal> {
         Head::from_words(parts.words(), table)
     }
 
     /// A head that was stored, by its words.
-    pub fn from_words(words: [u64; HEAD_WORDS], table: Table) -> Result<Head, Refusal> {
-        let head = Head::over(words, table);
-        // Every call judges soundness first; a copy's tick changes nothing here.
-        match head.clone().tick() {
+    pub fn from_words(words: [u64; HEAD_WORDS], table: T) -> Result<Head<T>, Refusal> {
+        let mut made = Head::over(words, table);
+        // Every call judges soundness first; this one changes nothing, since
+        // no table has that link.
+        match made.deregister(usize::MAX) {
             Err(Refusal::Unsound) => Err(Refusal::Unsound),
-            _ => Ok(head),
+            _ => Ok(made),
         }
     }
 
-    /// A head in any state, with the output that its table needs.
-    fn over(words: [u64; HEAD_WORDS], table: Table) -> Head {
-        let output = vec![0; FRAME_OCTETS * table.len()];
+    fn over(words: [u64; HEAD_WORDS], table: T) -> Head<T> {
         Head {
             words,
             table,
-            output,
+            reply: [0; HEAD_REPLY_WORDS],
         }
     }
 
-    /// Makes head and table fresh; refused the head holds address zero.
-    pub(crate) fn renew(&mut self, address: u64) -> Result<HeadReply<'_>, Refusal> {
-        self.call(|memory| sys::head_fresh(address, memory.head, memory.links, memory.reply))
-    }
-
     /// The client opens a discovery window.
+    #[inline]
     pub fn open_window(&mut self, asked: &OpenWindow) -> Result<HeadReply<'_>, Refusal> {
         let OpenWindow {
             grant: Grant { start, length },
@@ -88,6 +91,7 @@ impl Head {
 
     /// The client admits a box that asked: it takes the lowest idle link.
     /// `pending` is echoed, `sync` the sync time to assign.
+    #[inline]
     pub fn admit(
         &mut self,
         address: u64,
@@ -98,6 +102,7 @@ impl Head {
     }
 
     /// The client rejects a box that asked.
+    #[inline]
     pub fn reject(
         &mut self,
         address: u64,
@@ -109,66 +114,100 @@ impl Head {
 
     /// The client has a registered box register anew. Links are numbered from
     /// 1.
+    #[inline]
     pub fn reregister(&mut self, link: usize, sync: u32) -> Result<HeadReply<'_>, Refusal> {
         self.call(|memory| sys::head_reregister(link, sync, memory))
     }
 
     /// The client drops a registered box.
+    #[inline]
     pub fn deregister(&mut self, link: usize) -> Result<HeadReply<'_>, Refusal> {
         self.call(|memory| sys::head_deregister(link, memory))
     }
 
     /// The client sends a GATE of up to four grants. Bit 0 of `force` is the
     /// first grant's force bit.
+    #[inline]
     pub fn gate(
         &mut self,
         link: usize,
         grants: &[Grant],
         force: u8,
     ) -> Result<HeadReply<'_>, Refusal> {
-        let grants: Vec<u64> = grants.iter().map(Grant::word).collect();
-        self.call(|memory| sys::head_gate(link, &grants, force, memory))
+        let mut words = [0; MOST_GRANTS + 1];
+        let asked = words.iter_mut().zip(grants);
+        let asked = asked.map(|(word, grant)| *word = grant.word()).count();
+        self.call(|memory| sys::head_gate(link, &words[..asked], force, memory))
     }
 
     /// A frame came on a link. A box that asks to register comes on link 0.
+    #[inline]
     pub fn hear(&mut self, link: usize, octets: &[u8]) -> Result<HeadReply<'_>, Refusal> {
         self.call(|memory| sys::head_hear(link, octets, memory))
     }
 
     /// One quantum has passed.
+    #[inline]
     pub fn tick(&mut self) -> Result<HeadReply<'_>, Refusal> {
         self.call(sys::head_tick)
     }
 
-    /// Its table.
-    pub fn table(&self) -> &Table {
-        &self.table
+    /// The links of its table: link 1 first.
+    pub fn links(&self) -> impl ExactSizeIterator<Item = Link> + '_ {
+        let (links, _) = self.table.words().as_chunks();
+        links.iter().map(|words| sure(Link::of_words(words)))
+    }
+
+    /// The link of this number, from 1.
+    pub fn link(&self, number: usize) -> Option<Link> {
+        self.links().nth(number.checked_sub(1)?)
     }
 
     /// Everything that it holds beside the table.
     pub fn parts(&self) -> HeadParts {
-        HeadParts::of_words(&self.words)
+        sure(HeadParts::of_words(&self.words))
     }
 
-    /// Its block, to store it beside [`Table::words`].
+    /// Its block, to store it beside the table's [`words`](Table::words).
+    #[inline]
     pub fn words(&self) -> &[u64; HEAD_WORDS] {
         &self.words
     }
 
-    /// The output: the frames of the last call that handed some out, from the
-    /// start on.
-    pub fn output(&self) -> &[u8] {
-        &self.output
+    /// The memory of its table. The output has the frames of the last call that
+    /// handed some out, from the start on.
+    #[inline]
+    pub fn table(&self) -> &T {
+        &self.table
     }
 
+    #[inline]
     fn call(&mut self, call: impl FnOnce(HeadMemory<'_>) -> u8) -> Result<HeadReply<'_>, Refusal> {
-        let mut reply = [0; HEAD_REPLY_WORDS];
+        let (links, output) = self.table.lend();
         Refusal::judge(call(HeadMemory {
             head: &mut self.words,
-            links: &mut self.table.words,
-            output: &mut self.output,
-            reply: &mut reply,
+            links,
+            output: output.as_flattened_mut(),
+            reply: &mut self.reply,
         }))?;
-        Ok(HeadReply::new(&self.output, &reply))
+        Ok(HeadReply::of(&self.reply, self.table.output()))
+    }
+}
+
+impl<T: Table> fmt::Debug for Head<T> {
+    fn fmt(&self, f: &mut fmt::Formatter<'_>) -> fmt::Result {
+        f.debug_struct("Head")
+            .field("parts", &self.parts())
+            .field("links", &Links(self))
+            .finish()
+    }
+}
+
+/// The links of a head, to be shown.
+struct Links<'a, T>(&'a Head<T>);
+
+impl<T: Table> fmt::Debug for Links<'_, T> {
+    fn fmt(&self, f: &mut fmt::Formatter<'_>) -> fmt::Result {
+        f.debug_list().entries(self.0.links()).finish()
     }
 }

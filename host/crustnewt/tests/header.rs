@@ -1,6 +1,6 @@
 //! The wrapper's numbers are the header's.
 
-use proved::{sys, Refusal};
+use crustnewt::{sys, Refusal};
 use std::collections::HashMap;
 
 /// Every `#define NAME NUMBER` and `NAME = NUMBER` of the header.
