@@ -39,15 +39,16 @@ const FILLER_WORD: u64 = u64::from_ne_bytes([FILLER; 8]);
 
 impl Core for ProvedCore {
     fn read(&self, frame: &[u8]) -> Result<plain::Message, u8> {
-        let message = Message::read(frame).map_err(Refusal::number)?;
+        let mut message = Message::default();
+        message.read(frame).map_err(Refusal::number)?;
         Ok(message.turn())
     }
 
     fn write(&self, message: &plain::Message) -> (u8, Frame) {
         let message: Message = (*message).turn();
         let mut frame = [FILLER; sys::FRAME_OCTETS];
-        let number = sys::write(message.words(), &mut frame);
-        (number, frame)
+        let written = message.write(&mut frame);
+        (written.map_or_else(Refusal::number, |()| 0), frame)
     }
 
     fn head(&self) -> Box<dyn HeadCore> {

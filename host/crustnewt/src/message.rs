@@ -10,8 +10,22 @@ pub type Frame = [u8; FRAME_OCTETS];
 
 /// A control message, as read from a frame or to be written into one.
 ///
-/// It holds the words of the C face; [`Message::body`] makes a [`Body`] of
-/// them.
+/// It holds the words of the C face, and reading and writing fill what they are
+/// lent: to move what was read would take longer than to read it.
+/// [`Message::body`] makes a [`Body`] of the words.
+///
+/// ```
+/// # fn main() -> Result<(), crustnewt::Refusal> {
+/// use crustnewt::{Body, Message};
+///
+/// let mut frame = [0; 60];
+/// Message::new(0x0180_C200_0001, 0x0200_0000_0031, 7, &Body::Report).write(&mut frame)?;
+/// let mut message = Message::default();
+/// message.read(&frame)?;
+/// assert_eq!((message.stamp(), message.body()), (7, Body::Report));
+/// # Ok(())
+/// # }
+/// ```
 #[derive(Clone, Copy, Debug, PartialEq, Eq)]
 pub struct Message {
     words: [u64; MESSAGE_WORDS],
@@ -132,20 +146,18 @@ impl Message {
         }
     }
 
-    /// Reads a frame: any octets, of any number.
+    /// Reads a frame into it: any octets, of any number. Refused, it is an
+    /// empty REPORT with every field 0.
     #[inline]
-    pub fn read(octets: &[u8]) -> Result<Message, Refusal> {
-        let mut words = [0; MESSAGE_WORDS];
-        Refusal::judge(sys::read(octets, &mut words))?;
-        Ok(Message { words })
+    pub fn read(&mut self, octets: &[u8]) -> Result<(), Refusal> {
+        Refusal::judge(sys::read(octets, &mut self.words))
     }
 
-    /// Writes the frame; [`Refusal::Range`] where a field is outside its range.
+    /// Writes it into a frame; [`Refusal::Range`], and a frame of zeros, where a
+    /// field is outside its range.
     #[inline]
-    pub fn write(&self) -> Result<Frame, Refusal> {
-        let mut frame = [0; FRAME_OCTETS];
-        Refusal::judge(sys::write(&self.words, &mut frame))?;
-        Ok(frame)
+    pub fn write(&self, frame: &mut Frame) -> Result<(), Refusal> {
+        Refusal::judge(sys::write(&self.words, frame))
     }
 
     /// Destination.
@@ -176,6 +188,14 @@ impl Message {
     pub fn body(&self) -> Body {
         let [_, _, _, kind, a, b, c, d, e, f] = self.words;
         sure(Body::of_words(kind, [a, b, c, d, e, f]))
+    }
+}
+
+impl Default for Message {
+    /// An empty REPORT with every field 0.
+    #[inline]
+    fn default() -> Message {
+        Message::new(0, 0, 0, &Body::Report)
     }
 }
 

@@ -15,7 +15,9 @@ fn head<const LINKS: usize>() -> Head<ArrayTable<LINKS>> {
 }
 
 fn body(frame: &Frame) -> Body {
-    Message::read(frame).unwrap().body()
+    let mut message = Message::default();
+    message.read(frame).unwrap();
+    message.body()
 }
 
 /// A box that has heard of a window at count 0, sync 0 and length 74, and has
@@ -118,8 +120,11 @@ fn drift_is_signed() {
         sync,
         pending,
     };
-    let message = Message::new(BOX, HEAD, 30, &nack);
-    let reply = floor_box.hear(&message.write().unwrap(), 0).unwrap();
+    let mut frame = [0; 60];
+    Message::new(BOX, HEAD, 30, &nack)
+        .write(&mut frame)
+        .unwrap();
+    let reply = floor_box.hear(&frame, 0).unwrap();
     assert_eq!(reply.drift(), -2);
     assert!(reply.notices().eq([BoxNotice::Refused]));
 }
@@ -267,7 +272,9 @@ fn messages_go_to_octets_and_back() {
         },
     ] {
         let message = Message::new(EVERYONE, BOX, 5, &body);
-        let read = Message::read(&message.write().unwrap()).unwrap();
+        let (mut read, mut frame) = (Message::default(), [0xEE; 60]);
+        message.write(&mut frame).unwrap();
+        read.read(&frame).unwrap();
         assert_eq!(read, message);
         assert_eq!(read.body(), body);
         assert_eq!((read.to(), read.from(), read.stamp()), (EVERYONE, BOX, 5));
@@ -276,6 +283,9 @@ fn messages_go_to_octets_and_back() {
         granted,
         sync: 65_536,
     };
-    let wide = Message::new(EVERYONE, BOX, 5, &wide);
-    assert_eq!(wide.write(), Err(Refusal::Range));
+    let mut message = Message::new(EVERYONE, BOX, 5, &wide);
+    let mut frame = [0xEE; 60];
+    assert_eq!(message.write(&mut frame), Err(Refusal::Range));
+    assert_eq!(message.read(&frame), Err(Refusal::Kind));
+    assert_eq!((frame, message), ([0; 60], Message::default()));
 }

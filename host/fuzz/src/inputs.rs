@@ -1,6 +1,6 @@
 //! Octets and words to hand in.
 
-use crustnewt::sys::BOX_WORDS;
+use crustnewt::sys::{BOX_WORDS, FRAME_OCTETS};
 use crustnewt::{AckFlag, Body, Grant, Granted, Message, RegisterFlag, RequestFlag, UpTo};
 use crustnewt_tool::dice::Dice;
 
@@ -114,8 +114,10 @@ fn made_up(dice: &mut Dice) -> Vec<u8> {
     let body = body(dice);
     let (to, from) = (address(dice) % (1 << 48), address(dice) % (1 << 48));
     let stamp = dice.below(2000) as u32;
-    let frame = Message::new(to, from, stamp, &body).write();
-    frame.map_or_else(|_| Vec::new(), |frame| frame.to_vec())
+    let mut frame = [0; FRAME_OCTETS];
+    // Refused, it is zeros, which are no frame.
+    let _ = Message::new(to, from, stamp, &body).write(&mut frame);
+    frame.to_vec()
 }
 
 fn body(dice: &mut Dice) -> Body {
