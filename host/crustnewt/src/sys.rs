@@ -17,6 +17,8 @@ pub const BOX_WORDS: usize = 29;
 pub const BOX_FRAMES_OCTETS: usize = 120;
 /// Words that a call of the box tells.
 pub const BOX_REPLY_WORDS: usize = 19;
+/// Words of each notice that it tells.
+pub const BOX_NOTICE_WORDS: usize = 4;
 /// Words of a head's block.
 pub const HEAD_WORDS: usize = 5;
 /// Words of each link of the table.

@@ -26,6 +26,7 @@ fn lengths_are_the_headers() {
         ("BOX_WORDS", sys::BOX_WORDS),
         ("BOX_FRAMES_OCTETS", sys::BOX_FRAMES_OCTETS),
         ("BOX_REPLY_WORDS", sys::BOX_REPLY_WORDS),
+        ("BOX_NOTICE_WORDS", sys::BOX_NOTICE_WORDS),
         ("HEAD_WORDS", sys::HEAD_WORDS),
         ("LINK_WORDS", sys::LINK_WORDS),
         ("MOST_LINKS", sys::MOST_LINKS),

@@ -1,7 +1,7 @@
 //! What a call of the box tells.
 
 use crate::message::{Frame, Grant, Granted};
-use crate::sys::BOX_REPLY_WORDS;
+use crate::sys::{BOX_NOTICE_WORDS, BOX_REPLY_WORDS};
 use crate::word::{bit, fit, sure};
 use core::fmt;
 
@@ -38,8 +38,6 @@ const FRAMES: usize = 1;
 /// How many notices.
 const NUMBER: usize = 2;
 const NOTICES: usize = 3;
-/// Words of a notice.
-const NOTICE: usize = 4;
 
 impl<'a> BoxReply<'a> {
     /// What a call of [`crate::sys`] told in this memory.
@@ -66,7 +64,7 @@ impl<'a> BoxReply<'a> {
     /// The notices for the client, in order: four at most.
     #[inline]
     pub fn notices(&self) -> impl Iterator<Item = BoxNotice> + 'a {
-        let (notices, _) = self.words[NOTICES..].as_chunks::<NOTICE>();
+        let (notices, _) = self.words[NOTICES..].as_chunks();
         let number = fit(self.words[NUMBER]);
         let told = sure(number.and_then(|number: usize| notices.get(..number)));
         told.iter().map(|words| sure(BoxNotice::of_words(words)))
@@ -105,7 +103,7 @@ impl fmt::Debug for Notices<'_> {
 
 impl BoxNotice {
     /// Of kind, and for a grant start, length and force bit.
-    fn of_words(words: &[u64; NOTICE]) -> Option<BoxNotice> {
+    fn of_words(words: &[u64; BOX_NOTICE_WORDS]) -> Option<BoxNotice> {
         let [kind, start, length, force] = *words;
         Some(match kind {
             1 => BoxNotice::Window,
