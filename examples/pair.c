@@ -87,16 +87,18 @@ static const char *kind(const uint8_t *frame)
     return kinds[message[CRUSTNEWT_MESSAGE_KIND]];
 }
 
-/* What a call of the head told; its frames go onto the fibre at once. */
+/* What a call of the head told: its notice, if there is one. Its frames go onto the fibre at once. */
 static uint64_t head_told(uint8_t number)
 {
     static const char *const notices[] = {"none", "request", "registered", "dropped", "report"};
-    uint64_t notice = head_reply[CRUSTNEWT_HEAD_REPLY_NOTICE];
+    uint64_t notice = 0;
 
     done(number);
-    if (notice != CRUSTNEWT_HEAD_NOTICE_NONE)
+    if (head_reply[CRUSTNEWT_HEAD_REPLY_NOTICES] > 0) {
+        notice = head_reply[CRUSTNEWT_HEAD_REPLY_NOTICE];
         say("head", "notice: %s, link %" PRIu64 ", round trip %" PRIu64, notices[notice], head_reply[CRUSTNEWT_HEAD_REPLY_LINK],
             head_reply[CRUSTNEWT_HEAD_REPLY_TRIP]);
+    }
     for (uint64_t i = 0; i < head_reply[CRUSTNEWT_HEAD_REPLY_FRAMES]; i++) {
         say("head", "sends %s", kind(output + i * CRUSTNEWT_FRAME_OCTETS));
         put(&down, output + i * CRUSTNEWT_FRAME_OCTETS, quantum + DELAY);
@@ -111,11 +113,14 @@ static void box_told(uint8_t number)
                                           "grant", "open",   "close"};
 
     done(number);
-    for (const uint64_t *notice = box_reply + CRUSTNEWT_BOX_REPLY_NOTICES; notice < box_reply + CRUSTNEWT_BOX_REPLY_WORDS; notice += 4)
+    for (uint64_t i = 0; i < box_reply[CRUSTNEWT_BOX_REPLY_NOTICES]; i++) {
+        const uint64_t *notice = box_reply + CRUSTNEWT_BOX_REPLY_NOTICE + i * CRUSTNEWT_BOX_NOTICE_WORDS;
+
         if (notice[0] == CRUSTNEWT_BOX_NOTICE_GRANT)
             say("box", "notice: grant, start %" PRIu64 ", length %" PRIu64, notice[1], notice[2]);
-        else if (notice[0] != CRUSTNEWT_BOX_NOTICE_NONE)
+        else
             say("box", "notice: %s", notices[notice[0]]);
+    }
     for (uint64_t i = 0; i < box_reply[CRUSTNEWT_BOX_REPLY_FRAMES]; i++) {
         say("box", "hands out %s", kind(frames + i * CRUSTNEWT_FRAME_OCTETS));
         put(&waiting, frames + i * CRUSTNEWT_FRAME_OCTETS, quantum);

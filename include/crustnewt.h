@@ -13,8 +13,16 @@
  * judged. A block or a reply that is too short is answered CRUSTNEWT_SHORT and nothing is touched; one that is longer is fine, and
  * what lies behind the part that is used stays as it is.
  *
- * NUMBERS. A call returns a number of the service card below. Any number but CRUSTNEWT_DONE is a refusal: box, head, table and
- * output stay as they were, no frame is handed out, no notice is told, the drift is 0.
+ * NUMBERS. A call returns a number of the service card below. Any number but CRUSTNEWT_DONE is a refusal: block, table, frames and
+ * output stay as they were, word for word and octet for octet, and the reply tells 0 frames, 0 notices and a drift of 0. One refusal
+ * writes a state: crustnewt_box_fresh and crustnewt_head_fresh, where they answer CRUSTNEWT_RANGE, leave a block of zeros, which has
+ * address zero and is no sound state; a head's table stays as it was.
+ *
+ * STATES. Read the words of a block and a table as you like, and let only the library write them, but to hand in a state that was
+ * stored. Each state has one block of words: what the state or the phase at hand doesn't hold is 0, and so is what stands behind the
+ * last grant of a box's list. Words that are no state's (one of these isn't 0, a word is wider than its field, a state or a phase is
+ * unknown) are answered CRUSTNEWT_UNSOUND, and so are those of a state that isn't sound, an address above 48 bits and a list of more
+ * than 16 grants among them. A state that an earlier library left is such a block, and is taken.
  *
  * A QUANTUM is 16 bit times, 16 ns at 1 Gbit/s. Call crustnewt_head_tick and crustnewt_box_tick once in each.
  */
@@ -30,14 +38,15 @@ extern "C" {
 
 /* How many elements to lend. */
 #define CRUSTNEWT_FRAME_OCTETS 60
-#define CRUSTNEWT_MESSAGE_WORDS 17
+#define CRUSTNEWT_MESSAGE_WORDS 10
 #define CRUSTNEWT_BOX_WORDS 29
 #define CRUSTNEWT_BOX_FRAMES_OCTETS 120 /* two frames */
-#define CRUSTNEWT_BOX_REPLY_WORDS 18
+#define CRUSTNEWT_BOX_REPLY_WORDS 19
+#define CRUSTNEWT_BOX_NOTICE_WORDS 4 /* for each notice of the reply */
 #define CRUSTNEWT_HEAD_WORDS 5
 #define CRUSTNEWT_LINK_WORDS 5     /* for each link of the table */
 #define CRUSTNEWT_MOST_LINKS 64
-#define CRUSTNEWT_HEAD_REPLY_WORDS 4
+#define CRUSTNEWT_HEAD_REPLY_WORDS 5
 
 /* The service card. Reading tests 1, 2, 3, 4, writing only 4. A call of the box or the head tests 13, 12, 5, 6, 7, 8, 4, 9, 10, 11
  * and last 14, each where it applies; one that hears a frame reads it first. */
@@ -55,14 +64,12 @@ enum crustnewt_number {
     CRUSTNEWT_HELD = 10,      /* the address already holds a link */
     CRUSTNEWT_FULL = 11,      /* every link is held */
     CRUSTNEWT_OUTPUT = 12,    /* output shorter than 60 octets a link */
-    CRUSTNEWT_UNSOUND = 13,   /* unsound state or table: words that no call of the library leaves, or not 1 to 64 links */
+    CRUSTNEWT_UNSOUND = 13,   /* unsound state or table, or not 1 to 64 links */
     CRUSTNEWT_WINDOW = 14,    /* a discovery window opens on a box that isn't REGISTERING */
     CRUSTNEWT_SHORT = 100     /* not of the card: too little memory was lent, nothing was touched */
 };
 
-/* The words of a box's block. Read them as you like. Let only the library write them, but to hand in a state that was stored: words
- * that are no sound box's are answered CRUSTNEWT_UNSOUND, a word too large for its field, an unknown state and an unknown phase
- * among them. What the phase of the transmitter doesn't hold is not looked at. A timer is the ticks left, 0 when it is stopped. */
+/* The words of a box's block. A timer is the ticks left, 0 when it is stopped. */
 enum crustnewt_box_word {
     CRUSTNEWT_BOX_ADDRESS = 0,     /* 48 bits, the first octet on the wire highest */
     CRUSTNEWT_BOX_COUNT = 1,       /* the 32-bit counter, in quanta */
@@ -77,7 +84,8 @@ enum crustnewt_box_word {
     CRUSTNEWT_BOX_LIGHT_GRANT = 10, /* BEFORE: the random wait to come; DUE: the grant, as in the list; LIT: its length; else 0 */
     CRUSTNEWT_BOX_LIGHT_SYNC = 11, /* BEFORE, RANDOM, DUE, LIT: the sync held; else 0 */
     CRUSTNEWT_BOX_GRANTS = 12,     /* how many grants the list holds, 0 to 16 */
-    CRUSTNEWT_BOX_LIST = 13        /* the first of sixteen grants, in order of arrival: start in the upper 32 bits, length below */
+    CRUSTNEWT_BOX_LIST = 13        /* the first of sixteen places for grants, in order of arrival: start in the upper 32 bits, length
+                                    * below; 0 behind the last */
 };
 
 enum crustnewt_box_state {
@@ -98,15 +106,16 @@ enum crustnewt_box_light {
     CRUSTNEWT_BOX_LIGHT_OPEN = 7     /* a normal grant: transmission enabled */
 };
 
-/* The words that a call of the box tells. */
+/* The words that a call of the box tells. Words behind the last notice stay as they were. */
 enum crustnewt_box_reply_word {
-    CRUSTNEWT_BOX_REPLY_DRIFT = 0,  /* cast it to int64_t: how far the timestamp is from the box's count, 0 but for a message heard */
-    CRUSTNEWT_BOX_REPLY_FRAMES = 1, /* how many frames to send, 0 to 2: the first stands at octet 0 of `frames`, the second at 60 */
-    CRUSTNEWT_BOX_REPLY_NOTICES = 2 /* four notices in order, four words each: kind, and of a grant start, length, force bit */
+    CRUSTNEWT_BOX_REPLY_DRIFT = 0,   /* cast it to int64_t: how far the timestamp is from the box's count, 0 but for a message heard */
+    CRUSTNEWT_BOX_REPLY_FRAMES = 1,  /* how many frames to send, 0 to 2: the first stands at octet 0 of `frames`, the second at 60 */
+    CRUSTNEWT_BOX_REPLY_NOTICES = 2, /* how many notices, 0 to 4 */
+    CRUSTNEWT_BOX_REPLY_NOTICE = 3   /* the first notice, and the others behind it in order, CRUSTNEWT_BOX_NOTICE_WORDS each: its kind
+                                      * (enum crustnewt_box_notice), then of a grant its start, length and force bit, of others 0 */
 };
 
 enum crustnewt_box_notice {
-    CRUSTNEWT_BOX_NOTICE_NONE = 0, /* and none behind it */
     CRUSTNEWT_BOX_NOTICE_WINDOW = 1,
     CRUSTNEWT_BOX_NOTICE_REGISTERED = 2,
     CRUSTNEWT_BOX_NOTICE_REFUSED = 3,
@@ -117,11 +126,10 @@ enum crustnewt_box_notice {
     CRUSTNEWT_BOX_NOTICE_CLOSE = 8
 };
 
-/* The calls of the box. Each writes the frames that it hands out, and all of CRUSTNEWT_BOX_REPLY_WORDS; octets of `frames` that no
- * frame takes stay as they were. */
+/* The calls of the box. Octets of `frames` that no frame takes stay as they were. */
 
-/* A box that has not begun: count 0, WAIT, dark, no grants. Whatever the block held is gone. An address that is zero, a group's
- * or above 48 bits is CRUSTNEWT_RANGE, and the box then holds address zero: every later call is CRUSTNEWT_UNSOUND. */
+/* A box that has not begun: count 0, WAIT, dark, no grants. Whatever the block held is gone. CRUSTNEWT_RANGE for an address that is
+ * zero, a group's or above 48 bits: what the block then holds is said above, under NUMBERS. */
 uint8_t crustnewt_box_fresh(uint64_t address, uint64_t *block, size_t block_words, uint8_t *frames, size_t frames_octets,
                             uint64_t *reply, size_t reply_words);
 
@@ -143,12 +151,12 @@ uint8_t crustnewt_box_tick(uint64_t *block, size_t block_words, uint8_t *frames,
                            size_t reply_words);
 
 /* Which of a waiting control frame and a waiting data frame goes next: 0 neither, 1 the control frame, 2 the data frame. A length
- * of 0 says that none waits. Only the lengths decide; it refuses nothing but a short block. */
+ * of 0 says that none waits; of the octets only the lengths are looked at. Soundness isn't judged: nothing is refused but a short
+ * block, and the answer for words that are no state's is 0. */
 uint8_t crustnewt_box_next_to_send(const uint64_t *block, size_t block_words, const uint8_t *control, size_t control_octets,
                                    const uint8_t *data, size_t data_octets);
 
-/* The words of a head's block, and of each link of its table: link 1 first, each behind the one before. As with a box, read them as
- * you like and let only the library write them. What the window's phase doesn't hold is not looked at. */
+/* The words of a head's block, and of each link of its table: link 1 first, each behind the one before. */
 enum crustnewt_head_word {
     CRUSTNEWT_HEAD_ADDRESS = 0,       /* 48 bits, the first octet on the wire highest */
     CRUSTNEWT_HEAD_COUNT = 1,         /* the 32-bit counter, in quanta */
@@ -177,16 +185,16 @@ enum crustnewt_link_state {
     CRUSTNEWT_LINK_STATE_REGISTERED = 2
 };
 
-/* The words that a call of the head tells. */
+/* The words that a call of the head tells. Without a notice the last three stay as they were. */
 enum crustnewt_head_reply_word {
-    CRUSTNEWT_HEAD_REPLY_FRAMES = 0, /* how many frames stand in `output`, from octet 0 on, 60 octets each */
-    CRUSTNEWT_HEAD_REPLY_NOTICE = 1, /* enum crustnewt_head_notice */
-    CRUSTNEWT_HEAD_REPLY_LINK = 2,   /* the notice's link, 0 of a request */
-    CRUSTNEWT_HEAD_REPLY_TRIP = 3    /* its round trip, in quanta */
+    CRUSTNEWT_HEAD_REPLY_FRAMES = 0,  /* how many frames stand in `output`, from octet 0 on, 60 octets each */
+    CRUSTNEWT_HEAD_REPLY_NOTICES = 1, /* how many notices, 0 or 1 */
+    CRUSTNEWT_HEAD_REPLY_NOTICE = 2,  /* the notice: enum crustnewt_head_notice */
+    CRUSTNEWT_HEAD_REPLY_LINK = 3,    /* its link, 0 of a request */
+    CRUSTNEWT_HEAD_REPLY_TRIP = 4     /* its round trip, in quanta */
 };
 
 enum crustnewt_head_notice {
-    CRUSTNEWT_HEAD_NOTICE_NONE = 0,
     CRUSTNEWT_HEAD_NOTICE_REQUEST = 1,
     CRUSTNEWT_HEAD_NOTICE_REGISTERED = 2,
     CRUSTNEWT_HEAD_NOTICE_DROPPED = 3,
@@ -194,12 +202,11 @@ enum crustnewt_head_notice {
 };
 
 /* The calls of the head. `links` is the table: links_words / CRUSTNEWT_LINK_WORDS links, words behind the last stay as they are.
- * `output` needs CRUSTNEWT_FRAME_OCTETS for each link; octets that no frame takes stay as they were. Each call writes all of
- * CRUSTNEWT_HEAD_REPLY_WORDS. */
+ * `output` needs CRUSTNEWT_FRAME_OCTETS for each link; octets that no frame takes stay as they were. */
 
-/* A head that has not begun: count 0, window idle, every link idle. CRUSTNEWT_UNSOUND where not 1 to 64 links are lent, then
- * CRUSTNEWT_RANGE for an address that is zero, a group's or above 48 bits; the head then holds address zero, the links stay as they
- * were, and every later call is CRUSTNEWT_UNSOUND. */
+/* A head that has not begun: count 0, window idle, every link idle. Whatever block and table held is gone. CRUSTNEWT_UNSOUND where not
+ * 1 to 64 links are lent, then CRUSTNEWT_RANGE for an address that is zero, a group's or above 48 bits: what the block then holds is
+ * said above, under NUMBERS. */
 uint8_t crustnewt_head_fresh(uint64_t address, uint64_t *head, size_t head_words, uint64_t *links, size_t links_words,
                              uint64_t *reply, size_t reply_words);
 
@@ -244,13 +251,14 @@ uint8_t crustnewt_head_tick(uint64_t *head, size_t head_words, uint64_t *links, 
 /* Frames by themselves. */
 
 /* The words of a message. From CRUSTNEWT_MESSAGE_BODY on:
- *   GATE          how many grants, then start, length, force bit of each
- *   DISCOVERY     sync time, then start, length, force bit of its grant
+ *   GATE          how many grants (0 to 4), force bits (bit 0 the first grant's), then the grants
+ *   DISCOVERY     sync time, force bit, its grant
  *   REPORT        nothing
  *   REGISTER_REQ  flag, pending
  *   REGISTER      flag, port, sync time, pending
  *   REGISTER_ACK  flag, port, sync time
- * with the flags by their numbers on the wire. What a message doesn't hold is 0. */
+ * with the flags by their numbers on the wire, and a grant as one word: the start in the upper 32 bits, the length below. What a
+ * message doesn't hold is 0. */
 enum crustnewt_message_word {
     CRUSTNEWT_MESSAGE_DESTINATION = 0,
     CRUSTNEWT_MESSAGE_SOURCE = 1,

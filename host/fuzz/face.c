@@ -133,6 +133,43 @@ static void judge_number(uint8_t number, int is_short)
         require_kept("too little lent is not touched");
 }
 
+/* Whether words are too wide, unknown, or not 0 where nothing is held: then they are no state's. */
+static int is_nobodys_box(const uint64_t *box)
+{
+    static const uint8_t holds_left[] = {0, 1, 1, 1, 1, 1, 1, 1}, holds_grant[] = {0, 1, 0, 0, 0, 1, 1, 0},
+                         holds_sync[] = {0, 1, 1, 0, 0, 1, 1, 0};
+    uint64_t light = box[CRUSTNEWT_BOX_LIGHT], grant = box[CRUSTNEWT_BOX_LIGHT_GRANT];
+
+    for (unsigned i = CRUSTNEWT_BOX_COUNT; i < CRUSTNEWT_BOX_GRANTS; i++)
+        if (i != CRUSTNEWT_BOX_LIGHT_GRANT && box[i] > (i == CRUSTNEWT_BOX_PORT ? UINT16_MAX : UINT32_MAX))
+            return 1;
+    if (box[CRUSTNEWT_BOX_STATE] > CRUSTNEWT_BOX_STATE_REGISTERED || light > CRUSTNEWT_BOX_LIGHT_OPEN)
+        return 1;
+    for (uint64_t i = CRUSTNEWT_BOX_LIST + box[CRUSTNEWT_BOX_GRANTS] % 17; i < CRUSTNEWT_BOX_WORDS; i++)
+        if (box[i] != 0 && box[CRUSTNEWT_BOX_GRANTS] < 17)
+            return 1;
+    return (!holds_left[light] && box[CRUSTNEWT_BOX_LIGHT_LEFT] != 0) || (!holds_sync[light] && box[CRUSTNEWT_BOX_LIGHT_SYNC] != 0) ||
+           (!holds_grant[light] && grant != 0) || (light != CRUSTNEWT_BOX_LIGHT_DUE && grant > UINT32_MAX);
+}
+
+static int is_nobodys_head(const uint64_t *head)
+{
+    for (unsigned i = CRUSTNEWT_HEAD_COUNT; i < CRUSTNEWT_HEAD_WORDS; i++)
+        if (head[i] > UINT32_MAX)
+            return 1;
+    return head[CRUSTNEWT_HEAD_WINDOW] > CRUSTNEWT_HEAD_WINDOW_INSIDE ||
+           (head[CRUSTNEWT_HEAD_WINDOW] == CRUSTNEWT_HEAD_WINDOW_IDLE && head[CRUSTNEWT_HEAD_WINDOW_LEFT] != 0) ||
+           (head[CRUSTNEWT_HEAD_WINDOW] != CRUSTNEWT_HEAD_WINDOW_BEFORE && head[CRUSTNEWT_HEAD_WINDOW_LENGTH] != 0);
+}
+
+/* A call other than fresh; one that hears may have met with a refusal of the reader's first. */
+static void judge_words(int is_nobodys, int hears, uint8_t number)
+{
+    int is_read_first = hears && number >= CRUSTNEWT_SIZE && number <= CRUSTNEWT_RANGE;
+
+    require(!is_nobodys || number == CRUSTNEWT_UNSOUND || number == CRUSTNEWT_SHORT || is_read_first, "words that are no state's are 13");
+}
+
 static void hand_over(const uint8_t *frame)
 {
     memcpy(now.heard, frame, CRUSTNEWT_FRAME_OCTETS);
@@ -141,21 +178,26 @@ static void hand_over(const uint8_t *frame)
 
 static void judge_box(unsigned call, uint8_t number, int is_short)
 {
-    uint64_t frames = now.reply[CRUSTNEWT_BOX_REPLY_FRAMES];
+    uint64_t frames = now.reply[CRUSTNEWT_BOX_REPLY_FRAMES], notices = now.reply[CRUSTNEWT_BOX_REPLY_NOTICES];
 
     judge_number(number, is_short);
+    judge_words(call != 0 && is_nobodys_box(before.box), call == 3, number);
     if (number == CRUSTNEWT_SHORT)
         return;
-    allow(now.reply, CRUSTNEWT_BOX_REPLY_WORDS * sizeof *now.reply);
-    if (number == CRUSTNEWT_DONE || call == 0)
-        allow(now.box, CRUSTNEWT_BOX_WORDS * sizeof *now.box);
     if (number != CRUSTNEWT_DONE)
-        require_zero(now.reply, CRUSTNEWT_BOX_REPLY_WORDS, "a refusal tells nothing");
+        require_zero(now.reply, CRUSTNEWT_BOX_REPLY_NOTICE, "a refusal tells nothing");
     require(frames <= 2, "a box hands out two frames at most");
+    require(notices <= 4, "a box tells four notices at most");
+    allow(now.reply, (CRUSTNEWT_BOX_REPLY_NOTICE + (size_t)notices * CRUSTNEWT_BOX_NOTICE_WORDS) * sizeof *now.reply);
+    if (number == CRUSTNEWT_DONE || (call == 0 && number == CRUSTNEWT_RANGE))
+        allow(now.box, CRUSTNEWT_BOX_WORDS * sizeof *now.box);
+    if (call == 0 && number == CRUSTNEWT_RANGE)
+        require_zero(now.box, CRUSTNEWT_BOX_WORDS, "a refused fresh box is zeros");
+    require(number != CRUSTNEWT_DONE || !is_nobodys_box(now.box), "a call leaves a state");
     allow(now.output, (size_t)frames * CRUSTNEWT_FRAME_OCTETS);
     require_kept("a refusal changes nothing, and what isn't used stays");
     count(call, number, now.box[CRUSTNEWT_BOX_STATE] * 8 + now.box[CRUSTNEWT_BOX_LIGHT], frames,
-          now.reply[CRUSTNEWT_BOX_REPLY_NOTICES]);
+          notices > 0 ? now.reply[CRUSTNEWT_BOX_REPLY_NOTICE] : 0);
     if (frames > 0)
         hand_over(now.output + (frames - 1) * CRUSTNEWT_FRAME_OCTETS);
 }
@@ -192,29 +234,35 @@ static void call_next(void)
     number = crustnewt_box_next_to_send(now.box, words, now.heard, control, now.output, data);
     require(number <= 2 || number == CRUSTNEWT_SHORT, "the next frame is one of three");
     require((number == CRUSTNEWT_SHORT) == (words < CRUSTNEWT_BOX_WORDS), "100 is answered exactly where too little is lent");
+    require(!is_nobodys_box(now.box) || number == 0 || number == CRUSTNEWT_SHORT, "nothing goes out for words that are no state's");
     require_kept("asking for the next frame changes nothing");
 }
 
 static void judge_head(unsigned call, uint8_t number, int is_short)
 {
-    uint64_t frames = now.reply[CRUSTNEWT_HEAD_REPLY_FRAMES];
+    uint64_t frames = now.reply[CRUSTNEWT_HEAD_REPLY_FRAMES], notices = now.reply[CRUSTNEWT_HEAD_REPLY_NOTICES];
 
     judge_number(number, is_short);
+    judge_words(call != 10 && is_nobodys_head(before.head), call == 17, number);
     if (number == CRUSTNEWT_SHORT)
         return;
-    allow(now.reply, CRUSTNEWT_HEAD_REPLY_WORDS * sizeof *now.reply);
-    if (number == CRUSTNEWT_DONE || call == 10)
+    if (number == CRUSTNEWT_DONE || (call == 10 && number == CRUSTNEWT_RANGE))
         allow(now.head, CRUSTNEWT_HEAD_WORDS * sizeof *now.head);
     if (number == CRUSTNEWT_DONE)
         allow(now.links, links * CRUSTNEWT_LINK_WORDS * sizeof *now.links);
     else
-        require_zero(now.reply, CRUSTNEWT_HEAD_REPLY_WORDS, "a refusal tells nothing");
+        require_zero(now.reply, CRUSTNEWT_HEAD_REPLY_NOTICE, "a refusal tells nothing");
+    if (call == 10 && number == CRUSTNEWT_RANGE)
+        require_zero(now.head, CRUSTNEWT_HEAD_WORDS, "a refused fresh head is zeros");
+    require(number != CRUSTNEWT_DONE || !is_nobodys_head(now.head), "a call leaves a state");
     require(frames <= links, "a head hands out a frame a link at most");
+    require(notices <= 1, "a head tells a notice at most");
+    allow(now.reply, (notices > 0 ? CRUSTNEWT_HEAD_REPLY_WORDS : CRUSTNEWT_HEAD_REPLY_NOTICE) * sizeof *now.reply);
     allow(now.output, (size_t)frames * CRUSTNEWT_FRAME_OCTETS);
     require_kept("a refusal changes nothing, and what isn't used stays");
     require(number != CRUSTNEWT_DONE || (links >= 1 && links <= CRUSTNEWT_MOST_LINKS), "only 1 to 64 links are served");
     count(call, number, now.head[CRUSTNEWT_HEAD_WINDOW] * 4 + now.links[CRUSTNEWT_LINK_STATE], frames,
-          now.reply[CRUSTNEWT_HEAD_REPLY_NOTICE]);
+          notices > 0 ? now.reply[CRUSTNEWT_HEAD_REPLY_NOTICE] : 0);
     if (frames > 0)
         hand_over(now.output + (frames - 1) * CRUSTNEWT_FRAME_OCTETS);
 }

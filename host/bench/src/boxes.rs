@@ -1,8 +1,11 @@
-//! Ticks of a box.
+//! Calls of a box.
 
-use crate::measure::Row;
-use plain::Address;
-use proved::{BoxParts, BoxState, Light};
+use crate::frames::written;
+use crate::heads::HEAD;
+use crate::measure::Case;
+use crustnewt::sys::{self, BoxMemory};
+use crustnewt::{Body, BoxParts, BoxState, FloorBox, Frame, Grant, Granted, Light, Message, UpTo};
+use plain::{Address, Count};
 use std::hint::black_box;
 
 /// The box of the measurements, and the first of many.
@@ -12,38 +15,90 @@ pub const BOX: u64 = 0x0200_0000_0031;
 const TICKS: u32 = 50_000;
 
 /// The same box for both.
-#[derive(Clone, Copy)]
+#[derive(Clone)]
 pub struct Pair {
     /// For the proved library.
-    pub proved: proved::FloorBox,
+    pub proved: FloorBox,
     /// For the independent program.
     pub plain: plain::FloorBox,
 }
 
-/// A row for each box.
-pub fn rows() -> Vec<Row> {
+/// Ticks of boxes, and a frame that is heard.
+pub fn cases() -> Vec<Case> {
     let quiet = pair(BOX, BoxState::Wait, 0);
     let waiting = pair(BOX, BoxState::Requesting, 0);
     let lit = pair(BOX, BoxState::Registered, 60_000);
-    [
-        ("box tick, quiet", quiet),
-        ("box tick, waiting for REGISTER", waiting),
-        ("box tick, lit", lit),
+    vec![
+        ticking("box tick, quiet", quiet.clone()),
+        ticking("box tick, waiting for REGISTER", waiting),
+        ticking("box tick, registered", registered(BOX)),
+        ticking("box tick, lit", lit),
+        c_ticking(quiet),
+        hearing(registered(BOX)),
     ]
-    .map(|(name, Pair { proved, plain })| {
-        let mut proved = Kept::new(proved);
-        let mut plain = Kept::new(plain);
-        Row::short(
-            name,
-            move || {
-                black_box(&proved.next().tick());
-            },
-            move || {
-                black_box(&plain.next().tick());
-            },
-        )
-    })
-    .into()
+}
+
+fn ticking(name: &str, pair: Pair) -> Case {
+    let mut proved = Kept::new(pair.proved);
+    Case::short(
+        name,
+        move || {
+            black_box(&proved.next().tick());
+        },
+        plain_ticking(pair.plain),
+    )
+}
+
+fn c_ticking(pair: Pair) -> Case {
+    let mut block = Kept::new(*pair.proved.words());
+    let mut frames = [0; sys::BOX_FRAMES_OCTETS];
+    let mut reply = [0; sys::BOX_REPLY_WORDS];
+    Case::short(
+        "box tick, quiet, the C call",
+        move || {
+            black_box(sys::box_tick(BoxMemory {
+                block: block.next(),
+                frames: black_box(&mut frames),
+                reply: black_box(&mut reply),
+            }));
+        },
+        plain_ticking(pair.plain),
+    )
+}
+
+fn plain_ticking(whole: plain::FloorBox) -> impl FnMut() {
+    let mut plain = Kept::new(whole);
+    move || {
+        black_box(&plain.next().tick());
+    }
+}
+
+/// A GATE of four grants. The box is set back before each, so that its list
+/// has room.
+fn hearing(pair: Pair) -> Case {
+    let frame = gate();
+    let Pair { proved, plain } = pair;
+    let mut proved_now = proved.clone();
+    Case::short(
+        "box hears GATE of four grants",
+        move || {
+            proved_now.clone_from(&proved);
+            black_box(&black_box(&mut proved_now).hear(black_box(&frame), 0));
+        },
+        move || {
+            let mut plain = plain;
+            let message = plain::frame::read(black_box(&frame)).expect("it was written");
+            black_box(&black_box(&mut plain).hear(&message, 0));
+        },
+    )
+}
+
+fn gate() -> Frame {
+    let grants = [1000, 2000, 3000, 4000].map(|start| Granted {
+        grant: Grant { start, length: 500 },
+        force: false,
+    });
+    written(&Message::new(BOX, HEAD, 0, &Body::Gate(grants.into())))
 }
 
 /// A registered box.
@@ -67,10 +122,10 @@ fn pair(address: u64, state: BoxState, window: u32) -> Pair {
             0 => Light::Rest,
             left => Light::Open { left },
         },
-        grants: Vec::new(),
+        grants: UpTo::default(),
     };
     Pair {
-        proved: proved::FloorBox::restored(&parts).expect("it is sound"),
+        proved: FloorBox::restored(&parts).expect("it is sound"),
         plain: plain_box(&parts),
     }
 }
@@ -78,6 +133,7 @@ fn pair(address: u64, state: BoxState, window: u32) -> Pair {
 fn plain_box(parts: &BoxParts) -> plain::FloorBox {
     plain::FloorBox {
         address: Address(parts.address),
+        count: Count(parts.count),
         state: match parts.state {
             BoxState::Wait => plain::BoxState::Wait,
             BoxState::Registering => plain::BoxState::Registering,
@@ -102,11 +158,11 @@ struct Kept<B> {
     ticks: u32,
 }
 
-impl<B: Copy> Kept<B> {
+impl<B: Clone> Kept<B> {
     fn new(whole: B) -> Kept<B> {
         Kept {
+            now: whole.clone(),
             whole,
-            now: whole,
             ticks: 0,
         }
     }
@@ -114,7 +170,8 @@ impl<B: Copy> Kept<B> {
     fn next(&mut self) -> &mut B {
         self.ticks += 1;
         if self.ticks == TICKS {
-            (self.now, self.ticks) = (self.whole, 0);
+            self.now.clone_from(&self.whole);
+            self.ticks = 0;
         }
         black_box(&mut self.now)
     }

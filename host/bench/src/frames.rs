@@ -2,78 +2,124 @@
 
 use crate::boxes::BOX;
 use crate::heads::HEAD;
-use crate::measure::Row;
+use crate::measure::Case;
+use crustnewt::sys;
+use crustnewt::{AckFlag, Body, Frame, Grant, Granted, Message, RegisterFlag, RequestFlag};
 use plain::frame::{read, write};
-use proved::{AckFlag, Body, Grant, Granted, Message, RegisterFlag, RequestFlag};
 use std::hint::black_box;
 
-/// A row of reading and one of writing for each kind.
-pub fn rows() -> Vec<Row> {
-    messages()
+/// Reading and writing for each kind, and the C calls themselves for one.
+pub fn cases() -> Vec<Case> {
+    let mut cases: Vec<Case> = bodies()
         .into_iter()
-        .flat_map(|(name, message)| {
-            let frame = message.write().expect("it is in range");
-            let plain = read(&frame).expect("it was written");
-            [
-                Row::short(
-                    format!("read {name}"),
-                    || {
-                        black_box(&Message::read(black_box(&frame)));
-                    },
-                    || {
-                        black_box(&read(black_box(&frame)));
-                    },
-                ),
-                Row::short(
-                    format!("write {name}"),
-                    || {
-                        black_box(&black_box(&message).write());
-                    },
-                    || {
-                        black_box(&write(black_box(&plain)));
-                    },
-                ),
-            ]
+        .flat_map(|(name, body)| {
+            let message = Message::new(BOX, HEAD, 9, &body);
+            let frame = written(&message);
+            [reading(name, frame), writing(name, message, frame)]
         })
-        .collect()
+        .collect();
+    let message = Message::new(BOX, HEAD, 9, &Body::Report);
+    let frame = written(&message);
+    cases.extend([c_reading(frame), c_writing(message, frame)]);
+    cases
 }
 
-fn messages() -> [(&'static str, Message); 6] {
-    let grant = Grant {
-        start: 1000,
-        length: 500,
-    };
-    let (force, sync) = (true, 10);
-    let granted = Granted { grant, force };
-    [
-        ("GATE of four grants", Body::Gate(vec![granted; 4])),
-        ("discovery GATE", Body::Discovery { granted, sync }),
-        ("REPORT", Body::Report),
-        ("REGISTER_REQ", request()),
-        ("REGISTER", register()),
-        ("REGISTER_ACK", acknowledgement()),
-    ]
-    .map(|(name, body)| {
-        let message = Message::new(BOX, HEAD, 9, &body);
-        (name, message.expect("it has four grants at most"))
-    })
+/// Its frame.
+pub fn written(message: &Message) -> Frame {
+    let mut frame = [0; sys::FRAME_OCTETS];
+    message.write(&mut frame).expect("it is in range");
+    frame
 }
 
-fn request() -> Body {
-    let (flag, pending) = (RequestFlag::Register, 16);
-    Body::RegisterReq { flag, pending }
+fn reading(name: &str, frame: Frame) -> Case {
+    let mut message = Message::default();
+    Case::short(
+        format!("read {name}"),
+        move || {
+            black_box(black_box(&mut message).read(black_box(&frame))).ok();
+        },
+        plain_reading(frame),
+    )
 }
 
-fn register() -> Body {
-    Body::Register {
-        flag: RegisterFlag::Ack,
-        port: 1,
-        sync: 10,
-        pending: 16,
+fn writing(name: &str, message: Message, frame: Frame) -> Case {
+    let mut octets = frame;
+    Case::short(
+        format!("write {name}"),
+        move || {
+            black_box(black_box(&message).write(black_box(&mut octets))).ok();
+        },
+        plain_writing(frame),
+    )
+}
+
+fn c_reading(frame: Frame) -> Case {
+    let mut words = [0; sys::MESSAGE_WORDS];
+    Case::short(
+        "read REPORT, the C call",
+        move || {
+            black_box(sys::read(black_box(&frame), black_box(&mut words)));
+        },
+        plain_reading(frame),
+    )
+}
+
+fn c_writing(message: Message, frame: Frame) -> Case {
+    let mut octets = [0; sys::FRAME_OCTETS];
+    Case::short(
+        "write REPORT, the C call",
+        move || {
+            let words = black_box(&message).words();
+            black_box(sys::write(words, black_box(&mut octets)));
+        },
+        plain_writing(frame),
+    )
+}
+
+fn plain_reading(frame: Frame) -> impl FnMut() {
+    move || {
+        black_box(&read(black_box(&frame)));
     }
 }
 
-fn acknowledgement() -> Body {
-    let (flag, port, sync) = (AckFlag::Ack, 1, 10);
-    Body::RegisterAck { flag, port, sync }
+fn plain_writing(frame: Frame) -> impl FnMut() {
+    let message = read(&frame).expect("it was written");
+    move || {
+        black_box(&write(black_box(&message)));
+    }
+}
+
+fn bodies() -> [(&'static str, Body); 6] {
+    let granted = Granted {
+        grant: Grant {
+            start: 1000,
+            length: 500,
+        },
+        force: true,
+    };
+    let (port, sync, pending) = (1, 10, 16);
+    let discovery = Body::Discovery { granted, sync };
+    let request = Body::RegisterReq {
+        flag: RequestFlag::Register,
+        pending,
+    };
+    let register = Body::Register {
+        flag: RegisterFlag::Ack,
+        port,
+        sync,
+        pending,
+    };
+    let acknowledgement = Body::RegisterAck {
+        flag: AckFlag::Ack,
+        port,
+        sync,
+    };
+    [
+        ("GATE of four grants", Body::Gate([granted; 4].into())),
+        ("discovery GATE", discovery),
+        ("REPORT", Body::Report),
+        ("REGISTER_REQ", request),
+        ("REGISTER", register),
+        ("REGISTER_ACK", acknowledgement),
+    ]
 }

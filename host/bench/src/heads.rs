@@ -1,8 +1,11 @@
-//! Ticks of a head, and of a head with all its boxes.
+//! Calls of a head, and the ticks of a head with all its boxes.
 
 use crate::boxes::{registered, BOX};
-use crate::measure::Row;
-use plain::Address;
+use crate::frames::written;
+use crate::measure::Case;
+use crustnewt::sys::{self, HeadMemory};
+use crustnewt::{Body, Frame, Head, HeadParts, Link, LinkState, Message, Table, VecTable, Window};
+use plain::{Address, HeadAnswer, Refusal};
 use std::hint::black_box;
 
 /// The head of the measurements.
@@ -28,49 +31,87 @@ struct Plain {
 }
 
 impl Plain {
-    fn tick(&mut self) -> Result<plain::HeadAnswer, plain::Refusal> {
+    fn tick(&mut self) -> Result<HeadAnswer, Refusal> {
         self.head.tick(&mut self.links, &mut self.output)
+    }
+
+    fn hear(&mut self, link: u64, frame: &[u8]) -> Result<HeadAnswer, Refusal> {
+        let message = plain::frame::read(frame)?;
+        let (links, output) = (&mut self.links, &mut self.output);
+        self.head.hear(links, output, link, &message)
     }
 }
 
-/// A row for each size of table, and one for all together.
-pub fn rows() -> Vec<Row> {
-    let mut rows: Vec<Row> = [1, 8, 64].map(head_row).into();
-    rows.push(second_row());
-    rows
+/// The same head for both.
+#[derive(Clone)]
+struct Pair {
+    proved: Head<VecTable>,
+    plain: Plain,
 }
 
-/// The same head for both, with so many registered links.
-fn pair(links: usize) -> (proved::Head, Plain) {
-    let addresses = (0..links as u64).map(|n| BOX + n);
-    let table: Vec<proved::Link> = addresses
-        .map(|address| proved::Link {
-            address,
-            state: proved::LinkState::Registered,
-            wait: 0,
-            watchdog: WATCHDOG,
-            periodic: PERIOD,
-        })
-        .collect();
+/// Addresses of the boxes that hold the links.
+type Addresses = fn(usize) -> u64;
+
+/// One after the other, as from one reel.
+fn in_a_row(place: usize) -> u64 {
+    BOX + place as u64
+}
+
+/// Individual addresses without any order.
+fn scattered(place: usize) -> u64 {
+    let mixed = (place as u64 + 1).wrapping_mul(0x9E37_79B9_7F4A_7C15);
+    0x0200_0000_0000 | mixed >> 24
+}
+
+/// Ticks and a report heard for tables of several sizes, and all together.
+pub fn cases() -> Vec<Case> {
+    let mut cases: Vec<Case> = [1, 8, 64]
+        .map(|links| ticking(&format!("head tick, {}", counted(links)), links, in_a_row))
+        .into();
+    cases.extend([8, 64].map(|links| {
+        let name = format!("head tick, {}, scattered addresses", counted(links));
+        ticking(&name, links, scattered)
+    }));
+    cases.push(c_ticking(8));
+    cases.extend([1, 8, 64].map(hearing));
+    cases.push(second());
+    cases
+}
+
+fn counted(links: usize) -> String {
+    let plural = if links == 1 { "link" } else { "links" };
+    format!("{links} {plural}")
+}
+
+/// A head with so many registered links.
+fn pair(links: usize, addresses: Addresses) -> Pair {
+    let table = (0..links).map(|place| Link {
+        address: addresses(place),
+        state: LinkState::Registered,
+        wait: 0,
+        watchdog: WATCHDOG,
+        periodic: PERIOD,
+    });
     let plain = Plain {
         head: plain::Head {
             address: Address(HEAD),
             ..plain::Head::default()
         },
-        links: table.iter().map(plain_link).collect(),
+        links: table.clone().map(plain_link).collect(),
         output: vec![0; 60 * links],
     };
-    let parts = proved::HeadParts {
+    let parts = HeadParts {
         address: HEAD,
         count: 0,
-        window: proved::Window::Idle,
+        window: Window::Idle,
     };
-    let table = proved::Table::of(&table).expect("it has 1 to 64 links");
-    let proved = proved::Head::restored(&parts, table).expect("it is sound");
-    (proved, plain)
+    let table = VecTable::from_words(table.map(|link| link.words()).collect());
+    let table = table.expect("it has 1 to 64 links");
+    let proved = Head::restored(&parts, table).expect("it is sound");
+    Pair { proved, plain }
 }
 
-fn plain_link(link: &proved::Link) -> plain::Link {
+fn plain_link(link: Link) -> plain::Link {
     plain::Link {
         state: plain::LinkState::Registered,
         address: Address(link.address),
@@ -80,26 +121,52 @@ fn plain_link(link: &proved::Link) -> plain::Link {
     }
 }
 
-fn head_row(links: usize) -> Row {
-    let (proved, plain) = pair(links);
-    let plural = if links == 1 { "link" } else { "links" };
-    let (mut proved_now, mut proved_ticks) = (proved.clone(), 0);
-    let (mut plain_now, mut plain_ticks) = (plain.clone(), 0);
-    Row::short(
-        format!("head tick, {links} {plural}"),
+fn ticking(name: &str, links: usize, addresses: Addresses) -> Case {
+    let Pair { proved, plain } = pair(links, addresses);
+    let (mut now, mut ticks) = (proved.clone(), 0);
+    Case::short(
+        name,
         move || {
-            if is_over(&mut proved_ticks) {
-                proved_now.clone_from(&proved);
+            if is_over(&mut ticks) {
+                now.clone_from(&proved);
             }
-            black_box(&black_box(&mut proved_now).tick());
+            black_box(&black_box(&mut now).tick());
         },
-        move || {
-            if is_over(&mut plain_ticks) {
-                plain_now.clone_from(&plain);
-            }
-            black_box(&black_box(&mut plain_now).tick());
-        },
+        plain_ticking(plain),
     )
+}
+
+fn c_ticking(links: usize) -> Case {
+    let Pair { proved, plain } = pair(links, in_a_row);
+    let (head, table) = (*proved.words(), proved.table().words().to_vec());
+    let (mut head_now, mut table_now, mut ticks) = (head, table.clone(), 0);
+    let mut output = vec![0; sys::FRAME_OCTETS * links];
+    let mut reply = [0; sys::HEAD_REPLY_WORDS];
+    Case::short(
+        format!("head tick, {}, the C call", counted(links)),
+        move || {
+            if is_over(&mut ticks) {
+                (head_now, table_now) = (head, table.clone());
+            }
+            black_box(sys::head_tick(HeadMemory {
+                head: black_box(&mut head_now),
+                links: black_box(&mut table_now),
+                output: black_box(&mut output),
+                reply: black_box(&mut reply),
+            }));
+        },
+        plain_ticking(plain),
+    )
+}
+
+fn plain_ticking(whole: Plain) -> impl FnMut() {
+    let (mut now, mut ticks) = (whole.clone(), 0);
+    move || {
+        if is_over(&mut ticks) {
+            now.clone_from(&whole);
+        }
+        black_box(&black_box(&mut now).tick());
+    }
 }
 
 /// Counts a tick; true when it is time to set the head back.
@@ -108,18 +175,41 @@ fn is_over(ticks: &mut u32) -> bool {
     *ticks == 0
 }
 
+/// A REPORT on the last link; it leaves head and table as they are.
+fn hearing(links: usize) -> Case {
+    let frame = report(in_a_row(links - 1));
+    let Pair {
+        mut proved,
+        mut plain,
+    } = pair(links, in_a_row);
+    Case::short(
+        format!("head hears REPORT, {}", counted(links)),
+        move || {
+            black_box(&black_box(&mut proved).hear(links, black_box(&frame)));
+        },
+        move || {
+            black_box(&black_box(&mut plain).hear(links as u64, black_box(&frame)));
+        },
+    )
+}
+
+fn report(address: u64) -> Frame {
+    const EVERYONE: u64 = 0x0180_C200_0001;
+    written(&Message::new(EVERYONE, address, 0, &Body::Report))
+}
+
 /// Head and 64 boxes, all registered and quiet, through a part of a second;
 /// each tick is made. The table shows the whole second.
-fn second_row() -> Row {
-    let (proved, plain) = pair(BOXES);
-    let boxes: Vec<_> = (0..BOXES as u64).map(|n| registered(BOX + n)).collect();
+fn second() -> Case {
+    let Pair { proved, plain } = pair(BOXES, in_a_row);
+    let boxes = || (0..BOXES).map(|place| registered(in_a_row(place)));
+    let proved_boxes: Vec<_> = boxes().map(|pair| pair.proved).collect();
+    let plain_boxes: Vec<_> = boxes().map(|pair| pair.plain).collect();
     let ticks = 62_500_000 / PART;
-    let row = Row::long(
+    let case = Case::short(
         format!("a second of head and 64 boxes (1/{PART} made)"),
-        RUNS,
-        || {
-            let mut head = proved.clone();
-            let mut boxes: Vec<_> = boxes.iter().map(|pair| pair.proved).collect();
+        move || {
+            let (mut head, mut boxes) = (proved.clone(), proved_boxes.clone());
             for _ in 0..ticks {
                 black_box(&head.tick());
                 for floor_box in &mut boxes {
@@ -127,9 +217,8 @@ fn second_row() -> Row {
                 }
             }
         },
-        || {
-            let mut head = plain.clone();
-            let mut boxes: Vec<_> = boxes.iter().map(|pair| pair.plain).collect();
+        move || {
+            let (mut head, mut boxes) = (plain.clone(), plain_boxes.clone());
             for _ in 0..ticks {
                 black_box(&head.tick());
                 for floor_box in &mut boxes {
@@ -138,5 +227,5 @@ fn second_row() -> Row {
             }
         },
     );
-    row.scaled(f64::from(PART))
+    case.long(RUNS, f64::from(PART))
 }

@@ -4,45 +4,155 @@
 mod boxes;
 mod frames;
 mod heads;
+mod limits;
 mod measure;
 
-use measure::Row;
+use limits::{limit_of, Limit};
+use measure::{Case, Times};
 use std::process::ExitCode;
 
 const HELP: &str = "\
-Usage: bench
+Usage: bench [--check] [--only TEXT]
 
 Measures the same calls with the same inputs on the proved library and on the
-independent program in plain Rust, and prints a table: time a call of each, and
-how many times as long the proved one takes. Runs of the two take turns; a time
-is the median of 101 short runs, of the simulated second of 5.
+independent program in plain Rust, and prints a table in Markdown: time a call
+of each, how many times as long the proved one takes, and the limit of that
+ratio, which is read from docs/PERFORMANCE.md. Runs of the two take turns; a
+time is the median of 101 short runs, of the simulated second of 5.
 
-Build it for release: `./bench` at the repository's root does, and so does
-`cargo run --release -p bench`.";
+  --check      fail where a ratio is above its limit; a row that is gets two
+               more tries, since a busy machine spoils one
+  --only TEXT  only the rows that have this in their name
+  --help       this text
+
+Exit status: 0 if all went well, 1 if a ratio was above its limit, or if the
+table on that page has not just the rows that are measured, 2 if the command
+line can't be followed. Build it for release: `./bench` at the repository's root
+does, and so does `cargo run --release -p bench`.";
+
+/// Tries that a row gets before it is above its limit.
+const TRIES: usize = 3;
+
+#[derive(Default)]
+struct Options {
+    check: bool,
+    only: String,
+}
 
 fn main() -> ExitCode {
-    match std::env::args().nth(1).as_deref() {
-        None => {
-            print_table();
-            ExitCode::SUCCESS
+    let words: Vec<String> = std::env::args().skip(1).collect();
+    if words.iter().any(|word| word == "--help" || word == "-h") {
+        println!("{HELP}");
+        return ExitCode::SUCCESS;
+    }
+    let options = match options(&words) {
+        Ok(options) => options,
+        Err(complaint) => {
+            eprintln!("bench: {complaint}\n\n{HELP}");
+            return ExitCode::from(2);
         }
-        Some("--help" | "-h") => {
-            println!("{HELP}");
-            ExitCode::SUCCESS
-        }
-        Some(word) => {
-            eprintln!("bench: unknown option `{word}`\n\n{HELP}");
-            ExitCode::from(2)
-        }
+    };
+    let broken = measure_all(&options);
+    for line in &broken {
+        eprintln!("bench: {line}");
+    }
+    match broken.is_empty() {
+        true => ExitCode::SUCCESS,
+        false => ExitCode::FAILURE,
     }
 }
 
-fn print_table() {
+fn options(words: &[String]) -> Result<Options, String> {
+    let mut options = Options::default();
+    let mut words = words.iter();
+    while let Some(word) = words.next() {
+        match word.as_str() {
+            "--check" => options.check = true,
+            "--only" => {
+                let text = words.next().ok_or("--only needs a text")?;
+                options.only.clone_from(text);
+            }
+            _ => return Err(format!("unknown option `{word}`")),
+        }
+    }
+    Ok(options)
+}
+
+/// Prints the table; what is wrong with it, where that is asked.
+fn measure_all(options: &Options) -> Vec<String> {
     if cfg!(debug_assertions) {
         println!("Not built for release: these times say little.\n");
     }
-    println!("{:<44}{:>12}{:>12}{:>9}", "", "proved", "plain", "ratio");
-    for rows in [frames::rows, boxes::rows, heads::rows] {
-        rows().iter().for_each(Row::print);
+    let (limits, mut cases) = (limits::limits(), cases());
+    let mut broken = unlike(&limits, &cases);
+    cases.retain(|case| case.name.contains(&options.only));
+    print_row("", ["Proved", "Plain", "Ratio", "Limit"]);
+    println!("|---|---:|---:|---:|---:|");
+    for case in &mut cases {
+        let limit = limit_of(&limits, &case.name);
+        let times = measure(case, limit.filter(|_| options.check));
+        let [proved, plain, ratio] = times.columns();
+        let shown = limit.map_or_else(|| "none".to_owned(), |limit| format!("{limit:.1}"));
+        print_row(&case.name, [&proved, &plain, &ratio, &shown]);
+        if limit.is_some_and(|limit| times.ratio() > limit) {
+            broken.push(format!(
+                "{} is above its limit, {shown}: {ratio}",
+                case.name
+            ));
+        }
+    }
+    match options.check {
+        true => broken,
+        false => Vec::new(),
+    }
+}
+
+fn cases() -> Vec<Case> {
+    [frames::cases(), boxes::cases(), heads::cases()]
+        .into_iter()
+        .flatten()
+        .collect()
+}
+
+/// Measures a case, and again where it is above this limit; the best of it.
+fn measure(case: &mut Case, limit: Option<f64>) -> Times {
+    let mut best = case.measure();
+    for _ in 1..TRIES {
+        if limit.is_none_or(|limit| best.ratio() <= limit) {
+            break;
+        }
+        let again = case.measure();
+        if again.ratio() < best.ratio() {
+            best = again;
+        }
+    }
+    best
+}
+
+/// Rows that are measured and have no limit, and the other way round.
+fn unlike(limits: &[Limit], cases: &[Case]) -> Vec<String> {
+    let is_measured = |name: &str| cases.iter().any(|case| case.name == name);
+    let unlimited = cases
+        .iter()
+        .filter(|case| limit_of(limits, &case.name).is_none())
+        .map(|case| format!("docs/PERFORMANCE.md has no limit for: {}", case.name));
+    let unmeasured = limits
+        .iter()
+        .filter(|(name, _)| !is_measured(name))
+        .map(|(name, _)| format!("docs/PERFORMANCE.md has a row that isn't measured: {name}"));
+    unlimited.chain(unmeasured).collect()
+}
+
+fn print_row(name: &str, [proved, plain, ratio, limit]: [&str; 4]) {
+    println!("| {name:<43} | {proved:>9} | {plain:>8} | {ratio:>5} | {limit:>5} |");
+}
+
+#[cfg(test)]
+mod tests {
+    use super::*;
+
+    #[test]
+    fn the_page_has_a_limit_for_every_row_and_no_other() {
+        assert_eq!(unlike(&limits::limits(), &cases()), [""; 0]);
     }
 }

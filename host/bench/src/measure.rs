@@ -8,70 +8,84 @@ const RUNS: usize = 101;
 /// against the slices that a busy machine gives to others.
 const RUN: Duration = Duration::from_millis(1);
 
-/// A line of the table, in nanoseconds.
-pub struct Row {
-    name: String,
+/// The same call, proved and plain, to be measured as often as is wanted.
+pub struct Case {
+    /// As the table in `docs/PERFORMANCE.md` names it.
+    pub name: String,
+    proved: Timed,
+    plain: Timed,
+    runs: Runs,
+}
+
+/// Makes so many calls; nanoseconds a call. The loop is compiled with the call
+/// in it.
+type Timed = Box<dyn FnMut(u32) -> f64>;
+
+enum Runs {
+    /// Runs of as many calls as fill one.
+    Short,
+    /// So many runs of one call, which stands for one so many times as long.
+    Long(usize, f64),
+}
+
+/// Nanoseconds a call.
+#[derive(Clone, Copy)]
+pub struct Times {
     proved: f64,
     plain: f64,
 }
 
-impl Row {
-    /// Measures a short call of both.
+impl Case {
+    /// A short call.
     pub fn short(
         name: impl Into<String>,
-        mut proved: impl FnMut(),
-        mut plain: impl FnMut(),
-    ) -> Row {
-        let calls = [calls_in_a_run(&mut proved), calls_in_a_run(&mut plain)];
-        Row::measured(name.into(), RUNS, calls, proved, plain)
-    }
-
-    /// Measures a long call of both, which makes a run by itself.
-    pub fn long(
-        name: impl Into<String>,
-        runs: usize,
-        proved: impl FnMut(),
-        plain: impl FnMut(),
-    ) -> Row {
-        Row::measured(name.into(), runs, [1, 1], proved, plain)
-    }
-
-    /// Runs of the two take turns, so that a busy spell meets both.
-    fn measured(
-        name: String,
-        runs: usize,
-        calls: [u32; 2],
-        mut proved: impl FnMut(),
-        mut plain: impl FnMut(),
-    ) -> Row {
-        let mut times = [Vec::new(), Vec::new()];
-        for _ in 0..runs {
-            times[0].push(time(calls[0], &mut proved));
-            times[1].push(time(calls[1], &mut plain));
-        }
-        let [proved, plain] = times.map(median);
-        Row {
-            name,
-            proved,
-            plain,
+        proved: impl FnMut() + 'static,
+        plain: impl FnMut() + 'static,
+    ) -> Case {
+        Case {
+            name: name.into(),
+            proved: timed(proved),
+            plain: timed(plain),
+            runs: Runs::Short,
         }
     }
 
-    /// The same, made so many times larger: for a part that stands for the
-    /// whole.
-    pub fn scaled(self, times: f64) -> Row {
-        Row {
-            proved: self.proved * times,
-            plain: self.plain * times,
+    /// The same, but a call makes a run by itself, of `runs`, and is a part of
+    /// something that is `whole` times as long.
+    pub fn long(self, runs: usize, whole: f64) -> Case {
+        Case {
+            runs: Runs::Long(runs, whole),
             ..self
         }
     }
 
-    /// Prints the line.
-    pub fn print(&self) {
-        let (proved, plain) = (text(self.proved), text(self.plain));
-        let ratio = self.proved / self.plain;
-        println!("{:<44}{proved:>12}{plain:>12}{ratio:>9.2}", self.name);
+    /// Measures both. Their runs take turns, so that a busy spell meets both.
+    pub fn measure(&mut self) -> Times {
+        let Case { proved, plain, .. } = self;
+        let (runs, calls, whole) = match self.runs {
+            Runs::Short => (RUNS, [calls_in_a_run(proved), calls_in_a_run(plain)], 1.0),
+            Runs::Long(runs, whole) => (runs, [1, 1], whole),
+        };
+        let mut times = [Vec::new(), Vec::new()];
+        for _ in 0..runs {
+            times[0].push(proved(calls[0]));
+            times[1].push(plain(calls[1]));
+        }
+        let [proved, plain] = times.map(|times| whole * median(times));
+        Times { proved, plain }
+    }
+}
+
+impl Times {
+    /// How many times as long the proved call takes.
+    pub fn ratio(&self) -> f64 {
+        self.proved / self.plain
+    }
+
+    /// Both times and the ratio, as the table has them.
+    pub fn columns(&self) -> [String; 3] {
+        let ratio = format!("{:.2}", self.ratio());
+        [text(self.proved), text(self.plain), ratio]
     }
 }
 
@@ -89,19 +103,20 @@ fn median(mut times: Vec<f64>) -> f64 {
     times[times.len() / 2]
 }
 
-fn calls_in_a_run(call: &mut impl FnMut()) -> u32 {
+fn calls_in_a_run(timed: &mut Timed) -> u32 {
     let mut calls = 1;
-    while time(calls, call) * f64::from(calls) < RUN.as_nanos() as f64 && calls < 1 << 30 {
+    while timed(calls) * f64::from(calls) < RUN.as_nanos() as f64 && calls < 1 << 30 {
         calls *= 2;
     }
     calls
 }
 
-/// Nanoseconds a call.
-fn time(calls: u32, call: &mut impl FnMut()) -> f64 {
-    let begun = Instant::now();
-    for _ in 0..calls {
-        call();
-    }
-    begun.elapsed().as_nanos() as f64 / f64::from(calls)
+fn timed(mut call: impl FnMut() + 'static) -> Timed {
+    Box::new(move |calls| {
+        let begun = Instant::now();
+        for _ in 0..calls {
+            call();
+        }
+        begun.elapsed().as_nanos() as f64 / f64::from(calls)
+    })
 }

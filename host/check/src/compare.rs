@@ -1,7 +1,7 @@
 //! One script on two cores.
 
-use crustnewt::replay::{parse, Script, Stage};
 use crustnewt_core::Core;
+use crustnewt_tool::replay::{parse, Script, Stage};
 use plain::{FloorBox, Head, Link};
 use std::fmt;
 use std::panic::{catch_unwind, AssertUnwindSafe};

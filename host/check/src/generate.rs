@@ -8,8 +8,8 @@ pub(crate) mod messages;
 pub(crate) mod states;
 pub(crate) mod values;
 
-use crustnewt::dice::Dice;
-use crustnewt::replay::hex;
+use crustnewt_tool::dice::Dice;
+use crustnewt_tool::replay::hex;
 
 /// The script of this seed. Eight seeds in a row are of all kinds.
 pub fn script(seed: u64) -> Vec<String> {

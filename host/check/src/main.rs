@@ -1,8 +1,8 @@
 //! `check`: plays cases on two cores and tells where they differ.
 
 use check::{check, check_fixed, compare_wide};
-use crustnewt::cores::{core_named, CORES};
 use crustnewt_core::Core;
+use crustnewt_tool::cores::{core_named, CORES};
 use std::io::IsTerminal;
 use std::process::ExitCode;
 use std::time::{Duration, Instant};

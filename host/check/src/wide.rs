@@ -6,8 +6,8 @@
 use crate::generate::messages::{any_frame, any_message, granted};
 use crate::generate::states::{any_box, any_head, any_links};
 use crate::generate::values::{address, count, sync};
-use crustnewt::dice::Dice;
 use crustnewt_core::{Core, HeadCore};
+use crustnewt_tool::dice::Dice;
 use plain::{
     Address, Body, FloorBox, Gate, GateRequest, Grant, GrantList, Light, Link, Message, Newcomer,
     OpenWindow,

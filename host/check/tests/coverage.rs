@@ -1,8 +1,8 @@
 //! The cases reach every reply number, notice and phase.
 
 use check::script;
-use crustnewt::replay::replay;
 use crustnewt_core::PlainCore;
+use crustnewt_tool::replay::replay;
 use std::collections::HashSet;
 
 /// Every pair of neighbouring words that the first so many cases answer.

@@ -2,13 +2,12 @@
 //! nothing where it isn't.
 
 use check::{check, check_fixed, compare, compare_wide};
-use crustnewt::replay::replay;
-use crustnewt_core::{BoxCore, BoxReply, Core, HeadCore, HeadReply, PlainCore};
+use crustnewt_core::{BoxCore, BoxReply, Core, HeadCore, HeadReply, PlainCore, ProvedCore};
+use crustnewt_tool::replay::replay;
 use plain::{
     Address, Body, FloorBox, Frame, GateRequest, Head, HeadNotice, HeadNoticeKind, Link, Message,
     Newcomer, Next, OpenWindow,
 };
-use proved::ProvedCore;
 
 /// What is wrong with a spoiled core.
 #[derive(Clone, Copy, Debug, PartialEq, Eq)]

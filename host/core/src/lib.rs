@@ -5,6 +5,7 @@
 //! the `plain` library; a core with its own layout converts at this border.
 
 mod plain_core;
+mod proved_core;
 
 use plain::{
     Address, BoxNotice, Few, FloorBox, Frame, GateRequest, Head, HeadNotice, Link, Message,
@@ -12,6 +13,7 @@ use plain::{
 };
 
 pub use plain_core::PlainCore;
+pub use proved_core::ProvedCore;
 
 /// An implementation: reader, writer, and as many heads and boxes as wanted.
 pub trait Core {

@@ -1,6 +1,6 @@
 //! The functions of the C face as values.
 
-use proved::sys::{self, BoxMemory, HeadMemory};
+use crustnewt::sys::{self, BoxMemory, HeadMemory};
 
 /// A call of a box.
 #[derive(Clone, Debug, PartialEq, Eq)]

@@ -1,7 +1,8 @@
 //! Octets and words to hand in.
 
-use crustnewt::dice::Dice;
-use proved::{AckFlag, Body, Grant, Granted, Message, RegisterFlag, RequestFlag};
+use crustnewt::sys::{BOX_WORDS, FRAME_OCTETS};
+use crustnewt::{AckFlag, Body, Grant, Granted, Message, RegisterFlag, RequestFlag, UpTo};
+use crustnewt_tool::dice::Dice;
 
 /// The head of every case.
 pub const HEAD: u64 = 0x0200_0000_0001;
@@ -52,6 +53,19 @@ pub fn address(dice: &mut Dice) -> u64 {
     dice.pick(&[HEAD, BOX, BOX, box_near, EVERYONE, 0, any, any >> 16])
 }
 
+/// A box's words: any state, with its timers at their longest.
+pub fn any_box(dice: &mut Dice) -> Vec<u64> {
+    let (state, wait, watchdog, report) = dice.pick(&[
+        (0, 0, 0, 0),
+        (1, 0, 0, 0),
+        (2, 3_125_000, 0, 0),
+        (3, 0, 62_500_000, 3_125_000),
+    ]);
+    let mut block = vec![BOX, 0, state, wait, watchdog, report];
+    block.resize(BOX_WORDS, 0);
+    block
+}
+
 /// Sets one word to another, often where a field ends.
 pub fn spoil(dice: &mut Dice, words: &mut [u64]) {
     let at = dice.below(words.len() as u64) as usize;
@@ -66,10 +80,13 @@ pub fn spoil(dice: &mut Dice, words: &mut [u64]) {
     }
 }
 
-/// Sets a box's transmitter to any phase, close to its end.
+/// Sets a box's transmitter to any phase, close to its end, mostly with what
+/// the phase holds.
 pub fn relight(dice: &mut Dice, block: &mut [u64]) {
     let (phase, left) = (dice.below(8), 1 + dice.below(3));
     let grant = dice.pick(&[0, 74, 100, block[LIST]]);
+    let held = [1, 5, 6].contains(&phase) || dice.chance(50);
+    let grant = if held { grant } else { 0 };
     block[LIGHT..][..4].copy_from_slice(&[phase, left, grant, 0]);
 }
 
@@ -97,9 +114,10 @@ fn made_up(dice: &mut Dice) -> Vec<u8> {
     let body = body(dice);
     let (to, from) = (address(dice) % (1 << 48), address(dice) % (1 << 48));
     let stamp = dice.below(2000) as u32;
-    let message = Message::new(to, from, stamp, &body);
-    let frame = message.and_then(|message| message.write().ok());
-    frame.map_or_else(Vec::new, |frame| frame.to_vec())
+    let mut frame = [0; FRAME_OCTETS];
+    // Refused, it is zeros, which are no frame.
+    let _ = Message::new(to, from, stamp, &body).write(&mut frame);
+    frame.to_vec()
 }
 
 fn body(dice: &mut Dice) -> Body {
@@ -119,7 +137,10 @@ fn body(dice: &mut Dice) -> Body {
         pending,
     };
     match dice.below(10) {
-        0 | 1 => Body::Gate(vec![granted; dice.below(5) as usize]),
+        0 | 1 => {
+            let grants = dice.below(5) as usize;
+            Body::Gate(UpTo::of(&[granted; 4][..grants]).unwrap_or_default())
+        }
         2 => Body::Discovery { granted, sync },
         3 => Body::Report,
         4 => Body::RegisterReq {

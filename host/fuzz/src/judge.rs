@@ -3,12 +3,13 @@
 mod frames;
 mod on_box;
 mod on_head;
+mod states;
 
 pub use frames::{judge_read, judge_write};
 pub use on_box::{judge_box, judge_next, BoxLent};
 pub use on_head::{judge_head, HeadLent};
 
-use proved::Refusal;
+use crustnewt::Refusal;
 
 /// What a call left, once it was judged.
 #[derive(Clone, Debug, Default, PartialEq, Eq)]
@@ -30,6 +31,7 @@ pub struct Left {
 const FILLERS: [u8; 2] = [0xEE, 0x11];
 
 const DONE: u8 = 0;
+const RANGE: u8 = Refusal::Range as u8;
 const SHORT: u8 = Refusal::Short as u8;
 const UNSOUND: u8 = Refusal::Unsound as u8;
 
@@ -54,6 +56,20 @@ fn require_number(number: u8, short: bool) -> Result<(), String> {
     require(
         (number == SHORT) == short,
         &format!("the answer {told} 100, for what was lent"),
+    )
+}
+
+/// A call that judges a state answers 13 exactly where it isn't sound, unless
+/// it is to hear what the reader refuses: that comes first.
+fn require_judged(number: u8, heard: Option<&[u8]>, sound: bool) -> Result<(), String> {
+    if let Some(Err(refusal)) = heard.map(plain::frame::read) {
+        let read = number == refusal.number();
+        return require(read, "the reader's refusal isn't answered first");
+    }
+    let told = if sound { "a sound" } else { "an unsound" };
+    require(
+        (number == UNSOUND) != sound,
+        &format!("the answer is {number}, for {told} state"),
     )
 }
 

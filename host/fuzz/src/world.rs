@@ -2,12 +2,12 @@
 //! their words spoiled now and then.
 
 use crate::call::{BoxCall, Face, HeadCall};
-use crate::inputs::{address, frame, relight, spoil, within, BOX, HEAD};
+use crate::inputs::{address, any_box, frame, relight, spoil, within, BOX, HEAD};
 use crate::judge::{
     judge_box, judge_head, judge_next, judge_read, judge_write, BoxLent, HeadLent, Left,
 };
-use crustnewt::dice::Dice;
-use proved::sys::{BOX_WORDS, FRAME_OCTETS, HEAD_WORDS, LINK_WORDS, MESSAGE_WORDS};
+use crustnewt::sys::{FRAME_OCTETS, HEAD_WORDS, LINK_WORDS, MESSAGE_WORDS};
+use crustnewt_tool::dice::Dice;
 
 /// Frames kept to be heard again.
 const KEPT: usize = 16;
@@ -27,20 +27,18 @@ pub struct World<'a> {
 }
 
 impl<'a> World<'a> {
-    /// Fresh box and head: their address, and zeros.
+    /// A box in any state and a fresh head.
     pub fn new(face: &'a dyn Face, seed: u64) -> World<'a> {
         let mut dice = Dice::new(seed);
         let links = dice.pick(&[1, 1, 2, 3, 8, 63, 64, 65, 0]);
-        let made = |address, words| {
-            let mut made = vec![0; words];
-            made[0] = address;
-            made
-        };
+        let block = any_box(&mut dice);
+        let mut head = vec![0; HEAD_WORDS];
+        head[0] = HEAD;
         World {
             face,
             dice,
-            block: made(BOX, BOX_WORDS),
-            head: made(HEAD, HEAD_WORDS),
+            block,
+            head,
             links: vec![0; LINK_WORDS * links],
             frames: Vec::new(),
         }

@@ -1,7 +1,7 @@
 //! The fuzzer finds a face that breaks a promise, and reaches every number.
 
+use crustnewt::sys::{BoxMemory, HeadMemory, MESSAGE_WORDS};
 use fuzz::{fuzz, BoxCall, Face, HeadCall, Library};
-use proved::sys::{BoxMemory, HeadMemory};
 use std::cell::Cell;
 
 /// What is wrong with a spoiled face.
@@ -30,6 +30,12 @@ enum Flaw {
     ReadsOn,
     /// A data frame of no octets goes next.
     SendsNothing,
+    /// What the phase of a window doesn't hold isn't looked at.
+    TakesNobodys,
+    /// A notice's words are written where there is none.
+    StrayNotice,
+    /// A sound head is refused where its link 2 is held.
+    RefusesSound,
 }
 
 struct Spoiled {
@@ -92,8 +98,12 @@ impl Face for Spoiled {
             Some(word) if self.is(Flaw::StrayLink) && number == 0 => *word = 0,
             _ => {}
         }
-        if self.is(Flaw::RefusalTells) && number == 6 {
-            memory.reply[0] = 1;
+        match (self.flaw, number) {
+            (Flaw::RefusalTells, 6) => memory.reply[0] = 1,
+            (Flaw::StrayNotice, 0) if memory.reply[1] == 0 => memory.reply[2] = 0,
+            (Flaw::RefusesSound, 6) if memory.links.len() > 5 && memory.links[6] > 0 => return 13,
+            (Flaw::TakesNobodys, 13) if memory.head[2] == 0 && *call != HeadCall::Tick => return 6,
+            _ => {}
         }
         number
     }
@@ -106,8 +116,9 @@ impl Face for Spoiled {
     }
 
     fn read(&self, octets: &[u8], message: &mut [u64]) -> u8 {
-        if self.is(Flaw::ReadsOn) && message.len() > 17 {
-            message[17] = 0;
+        match message.get_mut(MESSAGE_WORDS) {
+            Some(word) if self.is(Flaw::ReadsOn) => *word = 0,
+            _ => {}
         }
         Library.read(octets, message)
     }
@@ -142,6 +153,9 @@ fn each_flaw_is_found() {
         Flaw::HalfWritten,
         Flaw::ReadsOn,
         Flaw::SendsNothing,
+        Flaw::TakesNobodys,
+        Flaw::StrayNotice,
+        Flaw::RefusesSound,
     ] {
         let face = spoiled(flaw);
         let found = (0..200).any(|seed| fuzz(&face, seed, &mut [0; 256]).is_err());

@@ -1,7 +1,6 @@
 //! The cores that there are.
 
-use crustnewt_core::{Core, PlainCore};
-use proved::ProvedCore;
+use crustnewt_core::{Core, PlainCore, ProvedCore};
 
 /// Name of a core, and how to make it.
 pub type Entry = (&'static str, fn() -> Box<dyn Core>);

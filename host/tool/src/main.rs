@@ -2,7 +2,7 @@
 
 mod usage;
 
-use crustnewt::{night, replay};
+use crustnewt_tool::{night, replay};
 use std::io::{self, IsTerminal};
 use std::process::ExitCode;
 use usage::{Command, Usage};

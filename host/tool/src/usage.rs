@@ -1,8 +1,8 @@
 //! The command line: what is asked for, and the help.
 
-use crustnewt::cores::{core_named, default_core};
-use crustnewt::night::{Options, Scenario};
 use crustnewt_core::Core;
+use crustnewt_tool::cores::{core_named, default_core};
+use crustnewt_tool::night::{Options, Scenario};
 use plain::numbers::TICKS_PER_SECOND;
 
 /// What is asked for.

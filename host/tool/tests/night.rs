@@ -1,7 +1,7 @@
 //! Nights end as document 01 lets them.
 
-use crustnewt::cores::CORES;
-use crustnewt::night::{run, Options, Progress, Scenario};
+use crustnewt_tool::cores::CORES;
+use crustnewt_tool::night::{run, Options, Progress, Scenario};
 use plain::numbers::TICKS_PER_SECOND;
 
 /// How a night goes: the same on every core.

@@ -1,7 +1,7 @@
 //! Scripts and their answers, worked by hand from the replay language's page.
 
-use crustnewt::cores::CORES;
-use crustnewt::replay::replay;
+use crustnewt_tool::cores::CORES;
+use crustnewt_tool::replay::replay;
 
 /// What a script answers: the same on every core.
 fn answers(script: &[u8]) -> String {

@@ -3,8 +3,8 @@
 use super::messages::{frame_for, For};
 use super::states::{any_box, box_lines};
 use super::values::{address, HEAD};
-use crustnewt::dice::Dice;
-use crustnewt::replay::hex;
+use crustnewt_tool::dice::Dice;
+use crustnewt_tool::replay::hex;
 use plain::FloorBox;
 
 pub(crate) fn script(dice: &mut Dice) -> Vec<String> {

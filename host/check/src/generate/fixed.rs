@@ -3,7 +3,7 @@
 
 use super::states::{box_lines, head_line, link_line};
 use super::values::{BOX, HEAD};
-use crustnewt::replay::hex;
+use crustnewt_tool::replay::hex;
 use plain::frame::{write, AckFlag, RegisterFlag, RequestFlag};
 use plain::{
     Address, Body, BoxState, Count, FloorBox, Gate, Grant, GrantList, Granted, Head, Light, Link,

@@ -3,8 +3,8 @@
 use super::messages::{fitting, frame_for, frame_of, granted, For};
 use super::states::{any_head, any_links, head_line, link_line};
 use super::values::{address, near, quanta, sync, BOX, HEAD};
-use crustnewt::dice::Dice;
-use crustnewt::replay::hex;
+use crustnewt_tool::dice::Dice;
+use crustnewt_tool::replay::hex;
 use plain::numbers::LONGEST_WINDOW;
 use plain::{Count, Link};
 

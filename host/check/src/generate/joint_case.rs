@@ -7,9 +7,9 @@ use super::box_case::{next, ticks};
 use super::head_case::{gate, open};
 use super::states::{box_lines, head_line, link_line};
 use super::values::{count, near, running, BOX, HEAD};
-use crustnewt::dice::Dice;
-use crustnewt::replay::{parse, Script, Stage};
 use crustnewt_core::PlainCore;
+use crustnewt_tool::dice::Dice;
+use crustnewt_tool::replay::{parse, Script, Stage};
 use plain::{Count, Head, Link, Window};
 use std::collections::VecDeque;
 

@@ -1,7 +1,7 @@
 //! Messages of every kind, and frames whole and damaged.
 
 use super::values::{address, count, near, quanta, sync, BOX, HEAD};
-use crustnewt::dice::Dice;
+use crustnewt_tool::dice::Dice;
 use plain::frame::{write, AckFlag, RegisterFlag, RequestFlag};
 use plain::{Address, Body, Count, Gate, Grant, Granted, LinkState, Message};
 

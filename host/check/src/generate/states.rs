@@ -1,7 +1,7 @@
 //! States to hand in, sound and unsound, and the lines that set them.
 
 use super::values::{address, count, edgy, near, quanta, running, sync, BOX, HEAD};
-use crustnewt::dice::Dice;
+use crustnewt_tool::dice::Dice;
 use plain::numbers::{needed_length, LONGEST, LONGEST_WINDOW, PERIOD, WAIT, WATCHDOG};
 use plain::{Address, BoxState, FloorBox, Grant, GrantList, Head, Light, Link, LinkState, Window};
 

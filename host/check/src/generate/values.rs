@@ -1,6 +1,6 @@
 //! Values that lie where mistakes are made.
 
-use crustnewt::dice::Dice;
+use crustnewt_tool::dice::Dice;
 use plain::{Address, Count};
 
 /// The head of most cases.

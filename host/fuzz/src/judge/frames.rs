@@ -3,7 +3,7 @@
 use super::{both, require, require_number, word, Left, DONE, SHORT};
 use crate::call::Face;
 use crate::guarded::Guarded;
-use proved::sys::{FRAME_OCTETS, MESSAGE_WORDS};
+use crustnewt::sys::{FRAME_OCTETS, MESSAGE_WORDS};
 
 /// The words of an empty REPORT with every field 0: its kind stands fourth.
 const BLANK: [u64; MESSAGE_WORDS] = {

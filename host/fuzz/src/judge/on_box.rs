@@ -1,9 +1,11 @@
 //! Calls of the box.
 
-use super::{both, require, require_number, word, Left, DONE, FILLERS, SHORT, UNSOUND};
+use super::states::{is_sound_box, told, Told};
+use super::{both, require, require_judged, require_number, word, Left, DONE, RANGE, SHORT};
 use crate::call::{BoxCall, Face};
 use crate::guarded::Guarded;
-use proved::sys::{BoxMemory, BOX_FRAMES_OCTETS, BOX_REPLY_WORDS, BOX_WORDS, FRAME_OCTETS};
+use crustnewt::sys::{BoxMemory, BOX_FRAMES_OCTETS, BOX_REPLY_WORDS, BOX_WORDS, FRAME_OCTETS};
+use plain::{Address, Next};
 
 /// A block, and how much is lent: words, octets, words.
 #[derive(Clone, Debug, PartialEq, Eq)]
@@ -43,8 +45,11 @@ struct Memory {
 
 const DRIFT: usize = 0;
 const FRAMES: usize = 1;
-const NOTICES: usize = 2;
+/// How many notices.
+const NUMBER: usize = 2;
+const NOTICES: usize = 3;
 const NOTICE: usize = 4;
+const MOST_NOTICES: u64 = 4;
 const GRANT: u64 = 6;
 const LAST_KIND: u64 = 8;
 
@@ -52,11 +57,27 @@ const LAST_KIND: u64 = 8;
 pub fn judge_box(face: &dyn Face, call: &BoxCall, lent: &BoxLent) -> Result<Left, String> {
     let left = both(|filler| judge_with(face, call, lent, filler))?;
     if left.number == DONE {
-        let enough = BoxLent::enough(&left.block);
-        let again = judge_with(face, &BoxCall::Tick, &enough, FILLERS[0])?;
-        require(again.number != UNSOUND, "a call left an unsound box")?;
+        require(is_sound_box(&left.block), "a call left an unsound box")?;
+    }
+    if left.number != SHORT {
+        require_state(left.number, call, &lent.block)?;
     }
     Ok(left)
+}
+
+/// The number rests on the words that were handed in, and a fresh box's on its
+/// address.
+fn require_state(number: u8, call: &BoxCall, block: &[u64]) -> Result<(), String> {
+    let heard = match call {
+        BoxCall::Fresh(address) => {
+            let party = Address(*address).is_individual();
+            let number_of_fresh = if party { DONE } else { RANGE };
+            return require(number == number_of_fresh, "a fresh box is answered wrong");
+        }
+        BoxCall::Hear(octets, _) => Some(&octets[..]),
+        _ => None,
+    };
+    require_judged(number, heard, is_sound_box(block))
 }
 
 fn judge_with(face: &dyn Face, call: &BoxCall, lent: &BoxLent, filler: u8) -> Result<Left, String> {
@@ -88,9 +109,9 @@ impl Memory {
         require(kept, "too little was lent, and something was touched")
     }
 
-    fn require_behind(&self, frames: usize) -> Result<(), String> {
+    fn require_behind(&self, frames: usize, notices: usize) -> Result<(), String> {
         let behind = self.block.is_kept_from(BOX_WORDS)
-            && self.reply.is_kept_from(BOX_REPLY_WORDS)
+            && self.reply.is_kept_from(NOTICES + NOTICE * notices)
             && self.frames.is_kept_from(FRAME_OCTETS * frames);
         require(behind, "what lies behind the part that is used was touched")
     }
@@ -98,8 +119,8 @@ impl Memory {
     /// A refusal tells nothing and changes nothing; a fresh box is then one of
     /// zeros.
     fn require_refused(&self, call: &BoxCall) -> Result<(), String> {
-        self.require_behind(0)?;
-        let told = self.reply.now()[..BOX_REPLY_WORDS] != [0; BOX_REPLY_WORDS];
+        self.require_behind(0, 0)?;
+        let told = self.reply.now()[..NOTICES] != [0; NOTICES];
         require(!told, "a refusal told something")?;
         match call {
             BoxCall::Fresh(_) => require(
@@ -113,17 +134,18 @@ impl Memory {
     fn require_told(&self, call: &BoxCall) -> Result<(), String> {
         let reply = self.reply.now();
         require(reply[FRAMES] <= 2, "more than two frames")?;
-        self.require_behind(reply[FRAMES] as usize)?;
+        let few = reply[NUMBER] <= MOST_NOTICES;
+        require(few, "more than four notices")?;
+        let told = reply[NUMBER] as usize;
+        self.require_behind(reply[FRAMES] as usize, told)?;
         let heard = matches!(call, BoxCall::Hear(..));
         require(heard || reply[DRIFT] == 0, "a drift without a message")?;
         let distance = i32::try_from(reply[DRIFT] as i64).is_ok();
         require(distance, "a drift that is no distance")?;
-        let mut ended = false;
-        for notice in reply[NOTICES..BOX_REPLY_WORDS].chunks_exact(NOTICE) {
-            ended |= notice[0] == 0;
+        for notice in reply[NOTICES..].chunks_exact(NOTICE).take(told) {
             let grant = notice[0] == GRANT && notice[3] <= 1;
             let blank = grant || notice[1..] == [0; 3];
-            let known = notice[0] <= LAST_KIND && !(ended && notice[0] != 0);
+            let known = (1..=LAST_KIND).contains(&notice[0]);
             require(known && blank, "a notice that is none")?;
         }
         Ok(())
@@ -138,11 +160,12 @@ impl Memory {
             };
         }
         let reply = self.reply.now();
+        let told = NOTICES + NOTICE * reply[NUMBER] as usize;
         Left {
             number,
             block: self.block.now()[..BOX_WORDS].to_vec(),
             links: Vec::new(),
-            reply: reply[..BOX_REPLY_WORDS].to_vec(),
+            reply: reply[..told].to_vec(),
             frames: self.frames.now()[..FRAME_OCTETS * reply[FRAMES] as usize].to_vec(),
         }
     }
@@ -165,11 +188,25 @@ pub fn judge_next(
             number <= 2 && !short || number == SHORT && short,
             "the next frame is none of three",
         )?;
-        let empty = number == 1 && control.is_empty() || number == 2 && data.is_empty();
-        require(!empty, "an empty frame is next")?;
+        if !short {
+            let right = next_of(&lent.block, control.len(), data.len());
+            require(number == right, "another frame is next")?;
+        }
         Ok(Left {
             number,
             ..Left::default()
         })
     })
+}
+
+/// Which frame is next: of words that are no state's none.
+fn next_of(block: &[u64], control: usize, data: usize) -> u8 {
+    let (Told::State(state) | Told::Unlisted(state)) = told(block) else {
+        return 0;
+    };
+    match state.next(control, data) {
+        Next::Nothing => 0,
+        Next::Control => 1,
+        Next::Data => 2,
+    }
 }

@@ -1,9 +1,15 @@
 //! Calls of the head.
 
-use super::{both, require, require_number, word, Left, DONE, FILLERS, SHORT, UNSOUND};
+use super::states::is_sound_head;
+use super::{
+    both, require, require_judged, require_number, word, Left, DONE, RANGE, SHORT, UNSOUND,
+};
 use crate::call::{Face, HeadCall};
 use crate::guarded::Guarded;
-use proved::sys::{HeadMemory, FRAME_OCTETS, HEAD_REPLY_WORDS, HEAD_WORDS, LINK_WORDS, MOST_LINKS};
+use crustnewt::sys::{
+    HeadMemory, FRAME_OCTETS, HEAD_REPLY_WORDS, HEAD_WORDS, LINK_WORDS, MOST_LINKS,
+};
+use plain::Address;
 
 /// A head and its table, and how much is lent: words, words, octets, words.
 #[derive(Clone, Debug, PartialEq, Eq)]
@@ -52,17 +58,22 @@ struct Memory {
     reply: Guarded<u64>,
 }
 
+const FRAMES: usize = 0;
+/// How many notices.
+const NUMBER: usize = 1;
+const NOTICE: usize = 2;
+const NOTICE_WORDS: usize = 3;
 const LAST_KIND: u64 = 4;
-/// What a frame that is none is answered, before anything else is judged.
-const READING: [u8; 4] = [1, 2, 3, 4];
 
 /// Makes a call of a head and holds it against the header.
 pub fn judge_head(face: &dyn Face, call: &HeadCall, lent: &HeadLent) -> Result<Left, String> {
     let left = both(|filler| judge_with(face, call, lent, filler))?;
     if left.number == DONE {
-        let enough = HeadLent::enough(&left.block, &left.links);
-        let again = judge_with(face, &HeadCall::Tick, &enough, FILLERS[0])?;
-        require(again.number != UNSOUND, "a call left an unsound head")?;
+        let sound = is_sound_head(&left.block, &left.links);
+        require(sound, "a call left an unsound head")?;
+    }
+    if left.number != SHORT {
+        require_state(left.number, call, lent)?;
     }
     Ok(left)
 }
@@ -93,23 +104,32 @@ fn judge_with(
     match number {
         SHORT => memory.require_untouched()?,
         DONE => memory.require_told(call, links)?,
-        _ => memory.require_refused(call)?,
+        _ => memory.require_refused(call, number)?,
     }
-    require_size(number, call, lent)?;
     Ok(memory.left(number, lent))
 }
 
-/// No table but one of 1 to 64 links is served, and no output that is short.
-fn require_size(number: u8, call: &HeadCall, lent: &HeadLent) -> Result<(), String> {
+/// The number rests on the words that were handed in and on how much was lent,
+/// and a fresh head's on its address and table.
+fn require_state(number: u8, call: &HeadCall, lent: &HeadLent) -> Result<(), String> {
     let links = lent.number_of_links();
-    if !(1..=MOST_LINKS).contains(&links) {
-        let read_first = matches!(call, HeadCall::Hear(..)) && READING.contains(&number);
-        let judged = [UNSOUND, SHORT].contains(&number) || read_first;
-        return require(judged, "a table that isn't 1 to 64 links was served");
-    }
-    let fresh = matches!(call, HeadCall::Fresh(_));
-    let enough = fresh || lent.output >= FRAME_OCTETS * links;
-    require(enough || number != DONE, "a short output was served")
+    let allowed = (1..=MOST_LINKS).contains(&links);
+    let heard = match call {
+        HeadCall::Fresh(address) => {
+            let right = match Address(*address).is_individual() {
+                _ if !allowed => UNSOUND,
+                false => RANGE,
+                true => DONE,
+            };
+            return require(number == right, "a fresh head is answered wrong");
+        }
+        HeadCall::Hear(_, octets) => Some(&octets[..]),
+        _ => None,
+    };
+    let enough = lent.output >= FRAME_OCTETS * links;
+    require(enough || number != DONE, "a short output was served")?;
+    let sound = allowed && is_sound_head(&lent.head, &lent.links);
+    require_judged(number, heard, sound)
 }
 
 impl Memory {
@@ -121,22 +141,23 @@ impl Memory {
         require(kept, "too little was lent, and something was touched")
     }
 
-    fn require_behind(&self, links: usize, frames: usize) -> Result<(), String> {
+    fn require_behind(&self, links: usize, frames: usize, notices: usize) -> Result<(), String> {
+        let told = NOTICE + NOTICE_WORDS * notices;
         let behind = self.head.is_kept_from(HEAD_WORDS)
             && self.links.is_kept_from(LINK_WORDS * links)
             && self.output.is_kept_from(FRAME_OCTETS * frames)
-            && self.reply.is_kept_from(HEAD_REPLY_WORDS);
+            && self.reply.is_kept_from(told);
         require(behind, "what lies behind the part that is used was touched")
     }
 
-    /// A refusal tells nothing and changes nothing; a fresh head is then one of
-    /// zeros.
-    fn require_refused(&self, call: &HeadCall) -> Result<(), String> {
-        self.require_behind(0, 0)?;
-        let told = self.reply.now()[..HEAD_REPLY_WORDS] != [0; HEAD_REPLY_WORDS];
+    /// A refusal tells nothing and changes nothing; a fresh head of no party's
+    /// address is then one of zeros.
+    fn require_refused(&self, call: &HeadCall, number: u8) -> Result<(), String> {
+        self.require_behind(0, 0, 0)?;
+        let told = self.reply.now()[..NOTICE] != [0; NOTICE];
         require(!told, "a refusal told something")?;
         match call {
-            HeadCall::Fresh(_) => require(
+            HeadCall::Fresh(_) if number == RANGE => require(
                 self.head.now()[..HEAD_WORDS] == [0; HEAD_WORDS],
                 "a refused fresh head isn't zeros",
             ),
@@ -145,17 +166,17 @@ impl Memory {
     }
 
     fn require_told(&self, call: &HeadCall, links: usize) -> Result<(), String> {
-        let [frames, notice, link, trip] = self.reply.now()[..HEAD_REPLY_WORDS] else {
+        let [frames, number, kind, link, trip] = self.reply.now()[..HEAD_REPLY_WORDS] else {
             return Err("no reply".to_owned());
         };
         let most = if *call == HeadCall::Tick { links } else { 1 };
         require(frames <= most as u64, "more frames than the call can have")?;
-        self.require_behind(links, frames as usize)?;
-        let heard = matches!(call, HeadCall::Hear(..));
-        require(heard || notice == 0, "a notice without a message")?;
-        let blank = notice != 0 || (link, trip) == (0, 0);
-        let known = notice <= LAST_KIND && link <= links as u64 && trip <= u64::from(u32::MAX);
-        require(blank && known, "a notice that is none")
+        let heard = u64::from(matches!(call, HeadCall::Hear(..)));
+        require(number <= heard, "more notices than the call can have")?;
+        self.require_behind(links, frames as usize, number as usize)?;
+        let known =
+            (1..=LAST_KIND).contains(&kind) && link <= links as u64 && trip <= u64::from(u32::MAX);
+        require(number == 0 || known, "a notice that is none")
     }
 
     fn left(&self, number: u8, lent: &HeadLent) -> Left {
@@ -173,8 +194,8 @@ impl Memory {
             number,
             block: self.head.now()[..HEAD_WORDS].to_vec(),
             links: self.links.now()[..LINK_WORDS * lent.number_of_links()].to_vec(),
-            reply: reply[..HEAD_REPLY_WORDS].to_vec(),
-            frames: self.output.now()[..FRAME_OCTETS * reply[0] as usize].to_vec(),
+            reply: reply[..NOTICE + NOTICE_WORDS * reply[NUMBER] as usize].to_vec(),
+            frames: self.output.now()[..FRAME_OCTETS * reply[FRAMES] as usize].to_vec(),
         }
     }
 }

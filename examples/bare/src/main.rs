@@ -1,0 +1,73 @@
+//! A head and a floor box in a program without `std` and without an allocator:
+//! the box registers. The exit status is 0 if all went well.
+//!
+//! It has a panic handler of its own, so it isn't compiled where `crustnewt`
+//! brings in `std`.
+#![no_std]
+#![no_main]
+
+use core::panic::PanicInfo;
+use crustnewt::{ArrayTable, BoxState, FloorBox, Frame, Grant, Head, OpenWindow, Refusal};
+
+// It has `memcpy` and its like too, which `core` and the library need.
+#[link(name = "c")]
+extern "C" {
+    fn abort() -> !;
+}
+
+#[panic_handler]
+fn panic(_: &PanicInfo<'_>) -> ! {
+    // SAFETY: it asks for nothing.
+    unsafe { abort() }
+}
+
+const BOX: u64 = 0x0200_0000_0031;
+
+#[no_mangle]
+extern "C" fn main() -> i32 {
+    match run() {
+        Ok(BoxState::Registered) => 0,
+        Ok(_) => 1,
+        Err(refusal) => refusal.number().into(),
+    }
+}
+
+/// The state that the box has come to.
+fn run() -> Result<BoxState, Refusal> {
+    let mut head = Head::fresh(0x0200_0000_0001, ArrayTable::<4>::new())?;
+    let mut floor_box = FloorBox::fresh(BOX)?;
+    floor_box.register()?;
+    let grant = Grant {
+        start: 100,
+        length: 174,
+    };
+    let sent = head.open_window(&OpenWindow {
+        grant,
+        sync: 0,
+        window: 400,
+    })?;
+    floor_box.hear(&sent.frames()[0], 250)?;
+    for _ in 0..300 {
+        head.tick()?;
+        let asked = floor_box.tick()?.frames().first().copied();
+        if let Some(request) = asked {
+            admit(&mut head, &mut floor_box, &request)?;
+        }
+    }
+    Ok(floor_box.state())
+}
+
+/// The head's client takes the box, and the box hears of it.
+fn admit(
+    head: &mut Head<ArrayTable<4>>,
+    floor_box: &mut FloorBox,
+    request: &Frame,
+) -> Result<(), Refusal> {
+    head.hear(0, request)?;
+    let register = head.admit(BOX, 16, 10)?;
+    let answers = floor_box.hear(&register.frames()[0], 0)?;
+    for answer in answers.frames() {
+        head.hear(1, answer)?;
+    }
+    Ok(())
+}

@@ -1,0 +1,59 @@
+//! Registration of floor boxes with their head, proved: the library for Rust,
+//! over its C face.
+//!
+//! [`Head`] and [`FloorBox`] own their words, and each of their calls is a
+//! call of the library: it answers a reply, which borrows from them, or a
+//! [`Refusal`] that has changed nothing. Every input is allowed; nothing of
+//! theirs can be called wrongly.
+//!
+//! ```
+//! use crustnewt::{ArrayTable, BoxState, FloorBox, Grant, Head, OpenWindow};
+//!
+//! # fn main() -> Result<(), crustnewt::Refusal> {
+//! let mut head = Head::fresh(0x0200_0000_0001, ArrayTable::<8>::new())?;
+//! let mut floor_box = FloorBox::fresh(0x0200_0000_0031)?;
+//! floor_box.register()?;
+//!
+//! // The head calls for newcomers, and the box hears it.
+//! let grant = Grant { start: 100, length: 174 };
+//! let sent = head.open_window(&OpenWindow { grant, sync: 0, window: 400 })?;
+//! floor_box.hear(&sent.frames()[0], 250)?;
+//!
+//! // 100 to the start, 48 of random wait, 32 for the laser: then the box asks.
+//! for _ in 0..180 {
+//!     head.tick()?;
+//!     floor_box.tick()?;
+//! }
+//! assert_eq!(floor_box.state(), BoxState::Requesting);
+//! # Ok(())
+//! # }
+//! ```
+//!
+//! It depends on no other crate, and on `core` alone. The feature `std` adds
+//! `VecTable`, a table of a size that is known only when the program runs.
+//!
+//! [`sys`] has the C face itself, as functions over slices of any length.
+
+#![no_std]
+
+#[cfg(feature = "std")]
+extern crate std;
+
+mod floor_box;
+mod head;
+mod message;
+mod refusal;
+pub mod sys;
+mod up_to;
+mod word;
+
+pub use floor_box::{BoxNotice, BoxParts, BoxReply, BoxState, FloorBox, Light, Next};
+#[cfg(feature = "std")]
+pub use head::VecTable;
+pub use head::{
+    ArrayTable, Head, HeadNotice, HeadNoticeKind, HeadParts, HeadReply, Link, LinkState,
+    OpenWindow, Table, Window,
+};
+pub use message::{AckFlag, Body, Frame, Grant, Granted, Message, RegisterFlag, RequestFlag};
+pub use refusal::Refusal;
+pub use up_to::UpTo;

@@ -1,0 +1,49 @@
+//! The wrapper's numbers are the header's.
+
+use crustnewt::{sys, Refusal};
+use std::collections::HashMap;
+
+/// Every `#define NAME NUMBER` and `NAME = NUMBER` of the header.
+fn numbers() -> HashMap<&'static str, usize> {
+    let header = include_str!("../../../include/crustnewt.h");
+    let code = header
+        .lines()
+        .map(|line| line.trim().trim_start_matches("#define "));
+    let pairs = code.filter_map(|line| {
+        let mut words = line.split([' ', ',', '=']).filter(|word| !word.is_empty());
+        let name = words.next()?.strip_prefix("CRUSTNEWT_")?;
+        Some((name, words.next()?.parse().ok()?))
+    });
+    pairs.collect()
+}
+
+#[test]
+fn lengths_are_the_headers() {
+    let numbers = numbers();
+    for (name, length) in [
+        ("FRAME_OCTETS", sys::FRAME_OCTETS),
+        ("MESSAGE_WORDS", sys::MESSAGE_WORDS),
+        ("BOX_WORDS", sys::BOX_WORDS),
+        ("BOX_FRAMES_OCTETS", sys::BOX_FRAMES_OCTETS),
+        ("BOX_REPLY_WORDS", sys::BOX_REPLY_WORDS),
+        ("BOX_NOTICE_WORDS", sys::BOX_NOTICE_WORDS),
+        ("HEAD_WORDS", sys::HEAD_WORDS),
+        ("LINK_WORDS", sys::LINK_WORDS),
+        ("MOST_LINKS", sys::MOST_LINKS),
+        ("HEAD_REPLY_WORDS", sys::HEAD_REPLY_WORDS),
+    ] {
+        assert_eq!(numbers[name], length, "{name}");
+    }
+}
+
+#[test]
+fn refusals_are_the_headers() {
+    let numbers = numbers();
+    for refusal in Refusal::ALL {
+        let name = format!("{refusal:?}").to_uppercase();
+        assert_eq!(numbers[name.as_str()], usize::from(refusal.number()));
+        assert_eq!(Refusal::of(refusal.number()), Some(refusal));
+    }
+    assert_eq!(Refusal::of(0), None);
+    assert_eq!(Refusal::of(15), None);
+}
