@@ -40,7 +40,7 @@ use Rattle.headwords.specs.Laws.{length-links}
 use Rattle.headcall.specs.Calls as headcall
 use Rattle.facelaws.proofs.HeadCalls.{fresh-length}
 use Rattle.survey.specs.Facts.{isFew}
-use Rattle.crustnewt.specs.Calls.{isLent, boxAt, heardOf}
+use Rattle.boxcall.specs.Calls.{isLent, boxAt, heardOf}
 use Rattle.facepair.specs.Box as box
 use Rattle.facepair.specs.Box.{BoxFace}
 use Rattle.facepair.specs.Head as head
