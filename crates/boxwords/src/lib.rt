@@ -3,7 +3,6 @@ ghost use mathlib.Core.Path.{_≡_};
 ghost use mathlib.Core.Bool.{cond};
 ghost use mathlib.Core.List.{map};
 ghost use lib.ListN.{drop};
-ghost use Prim.Native.Nat.{min};
 ghost use Rattle.boxwords.specs.Box.{entryWord, entryOf, stateWord, stateOf, registrationOf, phaseWords, lightWords, discoveryOf, lightOf, listOf, frontWords, frontOf, boxed, isClear, hasWords, boxWords, nobody, boxIn};
 ghost use Rattle.boxwords.specs.Told.{kindWords, noticeWords, numberOf, layout, toldWords};
 ghost use Rattle.words.specs.Words.{laid};
@@ -312,22 +311,12 @@ pub fn pack(b: FloorBox) -> [u64; 29]
     w
 }
 
-// How many places a list of so many grants takes.
-fn held(number: usize) -> usize
-    ensures { λ r. ⌜ r ≡ min number 16 ⌝ }
-{
-    if number < GrantList::ROOM {
-        return number;
-    }
-    GrantList::ROOM
-}
-
 // Nothing stands behind so many grants.
 fn is_clear(number: usize, entries: [u64; 16]) -> bool
     ensures { λ r. ⌜ r ≡ isClear (drop number entries) ⌝ }
 {
     let mut clear = true;
-    let mut i = held(number);
+    let mut i = number;
     while i < GrantList::ROOM {
         clear = clear & (entries[i] == 0);
         i += 1;
