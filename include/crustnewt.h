@@ -10,19 +10,20 @@
  * unless both are only read (const). Words are aligned as uint64_t.
  *
  * LENGTHS. Every pointer is followed by the number of its elements: octets of a uint8_t *, words of a uint64_t *. Each length is
- * judged. A block or a reply that is too short is answered CRUSTNEWT_SHORT and nothing is touched; one that is longer is fine, and
- * what lies behind the part that is used stays as it is.
+ * judged. A block or a reply that is too short is answered CRUSTNEWT_SHORT and nothing is touched; one that is longer is fine. What a
+ * call has no use for stays as it was: words behind the block, behind the last whole link of a table and behind the last notice of a
+ * reply, and octets that no frame takes.
  *
  * NUMBERS. A call returns a number of the service card below. Any number but CRUSTNEWT_DONE is a refusal: block, table, frames and
- * output stay as they were, word for word and octet for octet, and the reply tells 0 frames, 0 notices and a drift of 0. One refusal
- * writes a state: crustnewt_box_fresh and crustnewt_head_fresh, where they answer CRUSTNEWT_RANGE, leave a block of zeros, which has
- * address zero and is no sound state; a head's table stays as it was.
+ * output stay as they were, and the reply says 0 frames, 0 notices and a drift of 0 (after CRUSTNEWT_SHORT it stays as it was too). One
+ * refusal alone writes a state: with CRUSTNEWT_RANGE, crustnewt_box_fresh and crustnewt_head_fresh leave a block of zeros, which has
+ * address zero and isn't sound; the table stays as it was even then.
  *
  * STATES. Read the words of a block and a table as you like, and let only the library write them, but to hand in a state that was
  * stored. Each state has one block of words: what the state or the phase at hand doesn't hold is 0, and so is what stands behind the
- * last grant of a box's list. Words that are no state's (one of these isn't 0, a word is wider than its field, a state or a phase is
- * unknown) are answered CRUSTNEWT_UNSOUND, and so are those of a state that isn't sound, an address above 48 bits and a list of more
- * than 16 grants among them. A state that an earlier library left is such a block, and is taken.
+ * last grant of a box's list. Words that are no state's (one of these isn't 0, a state or a phase is unknown, a port has more than 16
+ * bits, a count, a time or a length more than 32) are answered CRUSTNEWT_UNSOUND, and so are those of a state that isn't sound. A state
+ * that an earlier library left is such a block, and is taken.
  *
  * A QUANTUM is 16 bit times, 16 ns at 1 Gbit/s. Call crustnewt_head_tick and crustnewt_box_tick once in each.
  */
@@ -81,11 +82,10 @@ enum crustnewt_box_word {
     CRUSTNEWT_BOX_SYNC = 7,        /* the sync time that a REGISTER gave, 16 bits */
     CRUSTNEWT_BOX_LIGHT = 8,       /* the transmitter: enum crustnewt_box_light */
     CRUSTNEWT_BOX_LIGHT_LEFT = 9,  /* its timer */
-    CRUSTNEWT_BOX_LIGHT_GRANT = 10, /* BEFORE: the random wait to come; DUE: the grant, as in the list; LIT: its length; else 0 */
-    CRUSTNEWT_BOX_LIGHT_SYNC = 11, /* BEFORE, RANDOM, DUE, LIT: the sync held; else 0 */
+    CRUSTNEWT_BOX_LIGHT_GRANT = 10, /* BEFORE: the random wait to come; DUE: the grant, as in the list; LIT: its length */
+    CRUSTNEWT_BOX_LIGHT_SYNC = 11, /* BEFORE, RANDOM, DUE, LIT: the sync held */
     CRUSTNEWT_BOX_GRANTS = 12,     /* how many grants the list holds, 0 to 16 */
-    CRUSTNEWT_BOX_LIST = 13        /* the first of sixteen places for grants, in order of arrival: start in the upper 32 bits, length
-                                    * below; 0 behind the last */
+    CRUSTNEWT_BOX_LIST = 13        /* the first of sixteen places for grants, in order of arrival: start in the upper 32 bits, length below */
 };
 
 enum crustnewt_box_state {
@@ -106,7 +106,7 @@ enum crustnewt_box_light {
     CRUSTNEWT_BOX_LIGHT_OPEN = 7     /* a normal grant: transmission enabled */
 };
 
-/* The words that a call of the box tells. Words behind the last notice stay as they were. */
+/* The words that a call of the box tells. */
 enum crustnewt_box_reply_word {
     CRUSTNEWT_BOX_REPLY_DRIFT = 0,   /* cast it to int64_t: how far the timestamp is from the box's count, 0 but for a message heard */
     CRUSTNEWT_BOX_REPLY_FRAMES = 1,  /* how many frames to send, 0 to 2: the first stands at octet 0 of `frames`, the second at 60 */
@@ -126,10 +126,10 @@ enum crustnewt_box_notice {
     CRUSTNEWT_BOX_NOTICE_CLOSE = 8
 };
 
-/* The calls of the box. Octets of `frames` that no frame takes stay as they were. */
+/* The calls of the box. */
 
 /* A box that has not begun: count 0, WAIT, dark, no grants. Whatever the block held is gone. CRUSTNEWT_RANGE for an address that is
- * zero, a group's or above 48 bits: what the block then holds is said above, under NUMBERS. */
+ * zero, a group's or above 48 bits; NUMBERS says what the block then holds. */
 uint8_t crustnewt_box_fresh(uint64_t address, uint64_t *block, size_t block_words, uint8_t *frames, size_t frames_octets,
                             uint64_t *reply, size_t reply_words);
 
@@ -161,8 +161,8 @@ enum crustnewt_head_word {
     CRUSTNEWT_HEAD_ADDRESS = 0,       /* 48 bits, the first octet on the wire highest */
     CRUSTNEWT_HEAD_COUNT = 1,         /* the 32-bit counter, in quanta */
     CRUSTNEWT_HEAD_WINDOW = 2,        /* the discovery window: enum crustnewt_head_window */
-    CRUSTNEWT_HEAD_WINDOW_LEFT = 3,   /* BEFORE, INSIDE: its timer; else 0 */
-    CRUSTNEWT_HEAD_WINDOW_LENGTH = 4  /* BEFORE: how long it will be open; else 0 */
+    CRUSTNEWT_HEAD_WINDOW_LEFT = 3,   /* BEFORE, INSIDE: its timer */
+    CRUSTNEWT_HEAD_WINDOW_LENGTH = 4  /* BEFORE: how long it will be open */
 };
 
 enum crustnewt_head_window {
@@ -185,7 +185,7 @@ enum crustnewt_link_state {
     CRUSTNEWT_LINK_STATE_REGISTERED = 2
 };
 
-/* The words that a call of the head tells. Without a notice the last three stay as they were. */
+/* The words that a call of the head tells. */
 enum crustnewt_head_reply_word {
     CRUSTNEWT_HEAD_REPLY_FRAMES = 0,  /* how many frames stand in `output`, from octet 0 on, 60 octets each */
     CRUSTNEWT_HEAD_REPLY_NOTICES = 1, /* how many notices, 0 or 1 */
@@ -201,12 +201,12 @@ enum crustnewt_head_notice {
     CRUSTNEWT_HEAD_NOTICE_REPORT = 4
 };
 
-/* The calls of the head. `links` is the table: links_words / CRUSTNEWT_LINK_WORDS links, words behind the last stay as they are.
- * `output` needs CRUSTNEWT_FRAME_OCTETS for each link; octets that no frame takes stay as they were. */
+/* The calls of the head. `links` is the table, of links_words / CRUSTNEWT_LINK_WORDS links; `output` needs CRUSTNEWT_FRAME_OCTETS for
+ * each. */
 
 /* A head that has not begun: count 0, window idle, every link idle. Whatever block and table held is gone. CRUSTNEWT_UNSOUND where not
- * 1 to 64 links are lent, then CRUSTNEWT_RANGE for an address that is zero, a group's or above 48 bits: what the block then holds is
- * said above, under NUMBERS. */
+ * 1 to 64 links are lent, then CRUSTNEWT_RANGE for an address that is zero, a group's or above 48 bits; NUMBERS says what the block
+ * then holds. */
 uint8_t crustnewt_head_fresh(uint64_t address, uint64_t *head, size_t head_words, uint64_t *links, size_t links_words,
                              uint64_t *reply, size_t reply_words);
 

@@ -34,7 +34,8 @@ pub trait HeadCore {
     fn lend_links(&mut self, links: usize);
     /// Lends this output to every later call.
     fn lend_output(&mut self, output: Vec<u8>);
-    /// Makes a fresh head over the lent table.
+    /// Makes a fresh head over the lent table, in place of the one that was
+    /// there; refused it holds address zero.
     fn fresh(&mut self, address: Address) -> HeadReply;
     /// Opens a discovery window.
     fn open_window(&mut self, request: &OpenWindow) -> HeadReply;
@@ -68,7 +69,7 @@ pub trait HeadCore {
 
 /// A box.
 pub trait BoxCore {
-    /// Makes a fresh box.
+    /// Makes a fresh box; refused it holds address zero.
     fn fresh(&mut self, address: Address) -> BoxReply;
     /// The client asks to register.
     fn register(&mut self) -> BoxReply;

@@ -49,11 +49,7 @@ impl HeadCore for PlainHead {
 
     fn fresh(&mut self, address: Address) -> HeadReply {
         let (head, answer) = Head::fresh(address, &mut self.links);
-        // Where a table can't be served nothing is written: DECISIONS.md, "The
-        // C face".
-        if !matches!(answer, Err(Refusal::Unsound)) {
-            self.head = head;
-        }
+        self.head = head;
         answer.into()
     }
 

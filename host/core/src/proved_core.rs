@@ -90,6 +90,9 @@ impl HeadCore for ProvedHead {
     }
 
     fn fresh(&mut self, address: Address) -> HeadReply {
+        // It takes the place of the head that was there, refused or not; the
+        // library by itself leaves that one where the table can't be served.
+        self.head = [0; sys::HEAD_WORDS];
         self.call(|memory| sys::head_fresh(address.0, memory.head, memory.links, memory.reply))
     }
 

@@ -20,7 +20,7 @@ pub use table::{ArrayTable, Link, LinkState, Table};
 /// its calls tell their replies in.
 #[derive(Clone)]
 pub struct Head<T> {
-    /// A sound head's, and a sound table's.
+    /// Sound, and so is the table.
     words: [u64; HEAD_WORDS],
     table: T,
     reply: [u64; HEAD_REPLY_WORDS],
@@ -135,9 +135,11 @@ impl<T: Table> Head<T> {
         force: u8,
     ) -> Result<HeadReply<'_>, Refusal> {
         let mut words = [0; MOST_GRANTS + 1];
-        let asked = words.iter_mut().zip(grants);
-        let asked = asked.map(|(word, grant)| *word = grant.word()).count();
-        self.call(|memory| sys::head_gate(link, &words[..asked], force, memory))
+        for (word, grant) in words.iter_mut().zip(grants) {
+            *word = grant.word();
+        }
+        let asked = &words[..grants.len().min(words.len())];
+        self.call(|memory| sys::head_gate(link, asked, force, memory))
     }
 
     /// A frame came on a link. A box that asks to register comes on link 0.

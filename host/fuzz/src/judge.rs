@@ -1,6 +1,7 @@
 //! What the header promises of every call, whatever it is handed.
 
 mod frames;
+mod messages;
 mod on_box;
 mod on_head;
 mod states;

@@ -67,8 +67,13 @@ impl<'a> World<'a> {
         let octets = frame(&mut self.dice, &self.frames);
         let mut message = vec![0; MESSAGE_WORDS];
         self.face.read(&octets, &mut message);
-        if self.dice.chance(500) {
+        if self.dice.chance(300) {
             spoil(&mut self.dice, &mut message);
+        }
+        if self.dice.chance(300) {
+            // Small words where a body has them: numbers, bits, flags.
+            let place = 4 + self.dice.below(6) as usize;
+            message[place] ^= 1 << self.dice.below(5);
         }
         let (words, octets) = (self.length(MESSAGE_WORDS), self.length(FRAME_OCTETS));
         told(judge_write(self.face, &message, words, octets), || {

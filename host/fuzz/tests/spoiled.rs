@@ -26,6 +26,8 @@ enum Flaw {
     Moody,
     /// A refused message leaves octets.
     HalfWritten,
+    /// The last word of a message isn't looked at.
+    WritesStray,
     /// The reader fills words behind the message.
     ReadsOn,
     /// A data frame of no octets goes next.
@@ -124,7 +126,12 @@ impl Face for Spoiled {
     }
 
     fn write(&self, message: &[u64], octets: &mut [u8]) -> u8 {
-        let number = Library.write(message, octets);
+        let mut message = message.to_vec();
+        match message.get_mut(MESSAGE_WORDS - 1) {
+            Some(word) if self.is(Flaw::WritesStray) => *word = 0,
+            _ => {}
+        }
+        let number = Library.write(&message, octets);
         if self.is(Flaw::HalfWritten) && number == 4 {
             octets[12] = 0x88;
         }
@@ -151,6 +158,7 @@ fn each_flaw_is_found() {
         Flaw::LeavesUnsound,
         Flaw::Moody,
         Flaw::HalfWritten,
+        Flaw::WritesStray,
         Flaw::ReadsOn,
         Flaw::SendsNothing,
         Flaw::TakesNobodys,

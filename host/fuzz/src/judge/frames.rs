@@ -1,6 +1,7 @@
 //! Reader and writer.
 
-use super::{both, require, require_number, word, Left, DONE, SHORT};
+use super::messages::message_of;
+use super::{both, require, require_number, word, Left, DONE, RANGE, SHORT};
 use crate::call::Face;
 use crate::guarded::Guarded;
 use crustnewt::sys::{FRAME_OCTETS, MESSAGE_WORDS};
@@ -34,8 +35,19 @@ pub fn judge_read(face: &dyn Face, octets: &[u8], words: usize) -> Result<Left, 
             ..only(number)
         })
     })?;
-    if left.number == DONE {
-        require_written(face, &left.block, octets)?;
+    if left.number == SHORT {
+        return Ok(left);
+    }
+    match plain::frame::read(octets) {
+        Ok(message) => {
+            let read = left.number == DONE && message_of(&left.block) == Some(message);
+            require(read, "a frame is read otherwise")?;
+            require_written(face, &left.block, octets)?;
+        }
+        Err(refusal) => {
+            let refused = left.number == refusal.number();
+            require(refused, "a frame is refused otherwise")?;
+        }
     }
     Ok(left)
 }
@@ -80,11 +92,16 @@ pub fn judge_write(
             ..only(number)
         })
     })?;
-    if left.number == DONE {
-        let mut read = [0; MESSAGE_WORDS];
-        let number = face.read(&left.frames, &mut read);
-        let same = number == DONE && read == message[..MESSAGE_WORDS];
-        require(same, "written, and not read as it was")?;
+    if left.number == SHORT {
+        return Ok(left);
+    }
+    let frame = message_of(message).and_then(|message| plain::frame::write(&message).ok());
+    match frame {
+        Some(frame) => {
+            let written = left.number == DONE && left.frames == frame;
+            require(written, "a message is written otherwise")?;
+        }
+        None => require(left.number == RANGE, "words of no message are written")?,
     }
     Ok(left)
 }

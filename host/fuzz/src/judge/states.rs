@@ -146,11 +146,13 @@ fn link(words: &[u64]) -> Option<Link> {
     })
 }
 
-fn half(word: u64) -> Option<u32> {
+/// A word of a field of 32 bits.
+pub fn half(word: u64) -> Option<u32> {
     u32::try_from(word).ok()
 }
 
-fn grant(word: u64) -> Grant {
+/// The grant of a word.
+pub fn grant(word: u64) -> Grant {
     Grant {
         start: Count((word >> 32) as u32),
         length: word as u32,
