@@ -238,25 +238,28 @@ fn a_gate_has_four_grants_at_most() {
     assert_eq!(UpTo::<Grant, 4>::of(&grants), None);
 }
 
-#[test]
-fn messages_go_to_octets_and_back() {
-    let granted = Granted {
-        grant: Grant {
-            start: u32::MAX,
-            length: 65_535,
-        },
-        force: true,
-    };
-    let (request, pending) = (RequestFlag::Deregister, 3);
-    let (port, sync) = (64, 9);
-    for body in [
+const GRANTED: Granted = Granted {
+    grant: Grant {
+        start: u32::MAX,
+        length: 65_535,
+    },
+    force: true,
+};
+
+/// One of each kind, with fields at their ends.
+fn bodies() -> [Body; 8] {
+    let (port, sync, pending) = (u16::MAX, 65_535, u8::MAX);
+    [
         Body::Gate([].into()),
-        Body::Gate([granted, Granted::default(), granted].into()),
-        Body::Gate([granted; 4].into()),
-        Body::Discovery { granted, sync },
+        Body::Gate([GRANTED, Granted::default(), GRANTED].into()),
+        Body::Gate([GRANTED; 4].into()),
+        Body::Discovery {
+            granted: GRANTED,
+            sync,
+        },
         Body::Report,
         Body::RegisterReq {
-            flag: request,
+            flag: RequestFlag::Deregister,
             pending,
         },
         Body::Register {
@@ -270,7 +273,12 @@ fn messages_go_to_octets_and_back() {
             port,
             sync,
         },
-    ] {
+    ]
+}
+
+#[test]
+fn messages_go_to_octets_and_back() {
+    for body in bodies() {
         let message = Message::new(EVERYONE, BOX, 5, &body);
         let (mut read, mut frame) = (Message::default(), [0xEE; 60]);
         message.write(&mut frame).unwrap();
@@ -279,8 +287,12 @@ fn messages_go_to_octets_and_back() {
         assert_eq!(read.body(), body);
         assert_eq!((read.to(), read.from(), read.stamp()), (EVERYONE, BOX, 5));
     }
+}
+
+#[test]
+fn what_is_refused_is_empty() {
     let wide = Body::Discovery {
-        granted,
+        granted: GRANTED,
         sync: 65_536,
     };
     let mut message = Message::new(EVERYONE, BOX, 5, &wide);
