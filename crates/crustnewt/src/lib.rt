@@ -20,7 +20,6 @@ use floorbox::Answer;
 use floorbox::FloorBox;
 use frame::Address;
 use frame::Reply;
-use frame::Writing;
 use judging::Request;
 use telling::Frames;
 use telling::Notices;
@@ -34,11 +33,6 @@ const BOX: usize = 29;
 const FRAMES: usize = 120;
 
 const REPLY: usize = 18;
-
-// Words of a message, octets of its frame.
-const MESSAGE: usize = 17;
-
-const FRAME: usize = 60;
 
 // The words of the box in a block; those that a short block lacks are 0.
 fn words_in(block: &[u64]) -> [u64; 29]
@@ -299,44 +293,7 @@ pub extern "C" fn crustnewt_box_next_to_send<'a>(
 pub extern "C" fn crustnewt_read(octets: &[u8], message: &mut [u64]) -> u8
     ensures { λ r. ⌜ readLeft r (now (message .exit)) ≡ readCall (now (octets .entry)) (now (message .entry)) ⌝ }
 {
-    if message.len() < MESSAGE {
-        return SHORT;
-    }
-    let reading = reader::read(octets);
-    let reply = reading.reply;
-    let read = reading.message;
-    let told = framewords::message_words(read);
-    words::lay(&told, message);
-    reply.number()
-}
-
-fn has_room(message: usize, octets: usize) -> bool
-    ensures { λ r. ⌜ r ≡ hasRoom message octets ⌝ }
-{
-    (MESSAGE <= message) & (FRAME <= octets)
-}
-
-fn first_words(message: &[u64]) -> [u64; 17]
-    requires { ⌜ 17 ≤ length (now message) ⌝ }
-    ensures { λ r. ⌜ r ≡ take 17 (now (message .entry)) ⌝ }
-{
-    let mut words = [0u64; 17];
-    words::lay(message, &mut words);
-    words
-}
-
-// Words that are no message's are refused as a field out of range is.
-fn writing_of(words: [u64; 17]) -> Writing
-    ensures { λ r. ⌜ r ≡ writingOf words ⌝ }
-{
-    let message = framewords::message_of(words);
-    if framewords::has_words(message, words) {
-        return writer::write(message);
-    }
-    Writing {
-        reply: Reply::Range,
-        octets: [0u8; 60],
-    }
+    frameread::read(octets, message)
 }
 
 // The words of a message, written into the octets of its frame; on a refusal they are zero.
@@ -344,14 +301,7 @@ fn writing_of(words: [u64; 17]) -> Writing
 pub extern "C" fn crustnewt_write(message: &[u64], octets: &mut [u8]) -> u8
     ensures { λ r. ⌜ writeLeft r (now (octets .exit)) ≡ writeCall (now (message .entry)) (now (octets .entry)) ⌝ }
 {
-    if has_room(message.len(), octets.len()) {
-        let writing = writing_of(first_words(message));
-        let reply = writing.reply;
-        let frame = writing.octets;
-        bytes::copy(&frame, octets);
-        return reply.number();
-    }
-    SHORT
+    framewrite::write(message, octets)
 }
 
 // A head that has not begun, over as many links as are lent.
