@@ -23,11 +23,6 @@ fn field(s: &[u8], at: usize, n: usize) -> u64 {
     octets::number(&s[at..e])
 }
 
-// Six octets are no width of a register: two of them, and four.
-fn address(s: &[u8], at: usize) -> u64 {
-    field(s, at, 2) * 0x100000000 + field(s, at + 2, 4)
-}
-
 // A grant in a word, start before length; 0 where there is none.
 fn grant(s: &[u8], at: usize, there: bool) -> u64 {
     if there {
@@ -64,8 +59,8 @@ fn lay(
 
 // The message of a frame, of such a kind and with such a body.
 fn take(s: &[u8], m: &mut [u64], kind: u64, a: u64, b: u64, c: u64, d: u64, e: u64, f: u64) -> u8 {
-    let destination = address(s, 0);
-    let source = address(s, 6);
+    let destination = field(s, 0, 6);
+    let source = field(s, 6, 6);
     let timestamp = field(s, 16, 4);
     lay(m, destination, source, timestamp, kind, a, b, c, d, e, f);
     0

@@ -17,12 +17,6 @@ fn lay(o: &mut [u8], at: usize, n: usize, x: u64) {
     octets::put(&mut o[at..e], x);
 }
 
-// Six octets are no width of a register: two of them, and four.
-fn lay_address(o: &mut [u8], at: usize, address: u64) {
-    lay(o, at, 2, address / 0x100000000);
-    lay(o, at + 2, 4, address);
-}
-
 // A grant from a word, start before length; zeros where there is none.
 fn lay_grant(o: &mut [u8], at: usize, grant: u64) {
     lay(o, at, 4, grant / 0x100000000);
@@ -37,8 +31,8 @@ fn refuse(o: &mut [u8]) -> u8 {
 // A frame with an empty body.
 fn begin(o: &mut [u8], destination: u64, source: u64, opcode: u64, timestamp: u64) {
     lay(o, 0, 60, 0);
-    lay_address(o, 0, destination);
-    lay_address(o, 6, source);
+    lay(o, 0, 6, destination);
+    lay(o, 6, 6, source);
     lay(o, 12, 2, Message::KIND);
     lay(o, 14, 2, opcode);
     lay(o, 16, 4, timestamp);
