@@ -64,7 +64,10 @@ fn write_gate(o: &mut [u8], w: &[u64]) -> u8 {
     let b = w[7];
     let c = w[8];
     let d = w[9];
-    let grants = grant_fits(a, 0 < n) & grant_fits(b, 1 < n) & grant_fits(c, 2 < n) & grant_fits(d, 3 < n);
+    let grants = grant_fits(a, 0 < n)
+        & grant_fits(b, 1 < n)
+        & grant_fits(c, 2 < n)
+        & grant_fits(d, 3 < n);
     if force_fits(force, n) & grants & header_fits(w[0], w[1], w[2]) {
         begin(o, w[0], w[1], Body::GATE, w[2]);
         lay(o, 20, 1, n + 16 * force);
@@ -81,7 +84,12 @@ fn write_discovery(o: &mut [u8], w: &[u64]) -> u8 {
     let sync = w[4];
     let force = w[5];
     let grant = w[6];
-    if (sync <= 0xFFFF) & (force <= 1) & grant_fits(grant, true) & (w[7] | w[8] | w[9] == 0) & header_fits(w[0], w[1], w[2]) {
+    if (sync <= 0xFFFF)
+        & (force <= 1)
+        & grant_fits(grant, true)
+        & (w[7] | w[8] | w[9] == 0)
+        & header_fits(w[0], w[1], w[2])
+    {
         begin(o, w[0], w[1], Body::GATE, w[2]);
         lay(o, 20, 1, 9 + 16 * force);
         lay_grant(o, 21, grant);
@@ -102,7 +110,11 @@ fn write_report(o: &mut [u8], w: &[u64]) -> u8 {
 fn write_register_req(o: &mut [u8], w: &[u64]) -> u8 {
     let flag = w[4];
     let pending = w[5];
-    if ((flag == 1) | (flag == 3)) & (pending <= 0xFF) & (w[6] | w[7] | w[8] | w[9] == 0) & header_fits(w[0], w[1], w[2]) {
+    if ((flag == 1) | (flag == 3))
+        & (pending <= 0xFF)
+        & (w[6] | w[7] | w[8] | w[9] == 0)
+        & header_fits(w[0], w[1], w[2])
+    {
         begin(o, w[0], w[1], Body::REGISTER_REQ, w[2]);
         lay(o, 20, 1, flag);
         lay(o, 21, 1, pending);
@@ -116,7 +128,14 @@ fn write_register(o: &mut [u8], w: &[u64]) -> u8 {
     let port = w[5];
     let sync = w[6];
     let pending = w[7];
-    if (1 <= flag) & (flag <= 4) & (port <= 0xFFFF) & (sync <= 0xFFFF) & (pending <= 0xFF) & (w[8] | w[9] == 0) & header_fits(w[0], w[1], w[2]) {
+    if (1 <= flag)
+        & (flag <= 4)
+        & (port <= 0xFFFF)
+        & (sync <= 0xFFFF)
+        & (pending <= 0xFF)
+        & (w[8] | w[9] == 0)
+        & header_fits(w[0], w[1], w[2])
+    {
         begin(o, w[0], w[1], Body::REGISTER, w[2]);
         lay(o, 20, 2, port);
         lay(o, 22, 1, flag);
@@ -131,7 +150,12 @@ fn write_register_ack(o: &mut [u8], w: &[u64]) -> u8 {
     let flag = w[4];
     let port = w[5];
     let sync = w[6];
-    if (flag <= 1) & (port <= 0xFFFF) & (sync <= 0xFFFF) & (w[7] | w[8] | w[9] == 0) & header_fits(w[0], w[1], w[2]) {
+    if (flag <= 1)
+        & (port <= 0xFFFF)
+        & (sync <= 0xFFFF)
+        & (w[7] | w[8] | w[9] == 0)
+        & header_fits(w[0], w[1], w[2])
+    {
         begin(o, w[0], w[1], Body::REGISTER_ACK, w[2]);
         lay(o, 20, 1, flag);
         lay(o, 21, 2, port);
