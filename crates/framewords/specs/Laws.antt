@@ -1,14 +1,14 @@
 -- Ten words one by one, when words are just those of what they tell, and the flags by their numbers.
 -- Assumes nothing.
 use Prim.Native.Nat.{ℕ, _≤_}
-use mathlib.Core.Path.{_≡_, refl, sym}
+use mathlib.Core.Path.{_≡_, refl, sym, ap}
 use mathlib.Core.Bool.{Bool, true, false, cond, _||_, and-eq-true-iff, true≢false}
 use mathlib.Core.Logic.{_⊎_, inl, inr, ⊎-elim}
 use mathlib.Core.List.{List, [], _∷_}
 use native.Mathlib.Omega.{arith}
 use borrow.Author.Tests.{eq-eqb, eqb-true}
 use lib.Dec.{eqb}
-use lib.ListN.{length, drop}
+use lib.ListN.{length, take, drop}
 use lib.Seq.{drop-cons}
 use Rattle.frame.specs.Layout.{registerReqFlag, registerFlag, registerAckFlag}
 use Rattle.frame.specs.Reading.{oneOf}
@@ -40,6 +40,10 @@ opened w h =
       drop-cons w 8 0 (omega arith),
       drop-cons w 9 0 (omega arith),
     )
+
+pub first-ten : (w : List ℕ) → 10 ≤ length w
+    → take 10 w ≡ at w 0 ∷ at w 1 ∷ at w 2 ∷ at w 3 ∷ at w 4 ∷ at w 5 ∷ at w 6 ∷ at w 7 ∷ at w 8 ∷ at w 9 ∷ []
+first-ten w h = ap (λ (l : List ℕ). take 10 l) (opened w h)
 
 pub same-refl : (w : List ℕ) → same w w ≡ true
 same-refl [] = refl

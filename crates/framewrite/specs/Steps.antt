@@ -26,6 +26,10 @@ grantIn g there = cond there (leb (g % 2 ^ 32) 0xFFFF) (eqb g 0)
 abbrev pub forceIn : ℕ → ℕ → Bool
 forceIn force n = cond (leb n 4) (eqb (force / 2 ^ n) 0) false
 
+abbrev pub gateIn : ℕ → ℕ → ℕ → ℕ → ℕ → ℕ → Bool
+gateIn n force a b c d =
+    forceIn force n && grantIn a (ltb 0 n) && grantIn b (ltb 1 n) && grantIn c (ltb 2 n) && grantIn d (ltb 3 n)
+
 abbrev pub grantBytes : ℕ → List ℕ
 grantBytes g = bytes 4 (g / 2 ^ 32) ++ bytes 2 (g % 2 ^ 32)
 
@@ -35,16 +39,15 @@ grantOver a l g = over (a + 4) (over a l (bytes 4 (g / 2 ^ 32))) (bytes 2 (g % 2
 module _ (d s t : ℕ) where
   unfoldable pub gateLaid : ℕ → ℕ → ℕ → ℕ → ℕ → ℕ → List ℕ → WriteLeft
   gateLaid n force a b c e o =
-      laidOut
-      (headerIn d s t && forceIn force n && grantIn a (ltb 0 n) && grantIn b (ltb 1 n) && grantIn c (ltb 2 n) && grantIn e (ltb 3 n))
-      (frameOf d s 2 t (bytes 1 (n + 16 * force) ++ grantBytes a ++ grantBytes b ++ grantBytes c ++ grantBytes e))
+      laidOut (headerIn d s t && gateIn n force a b c e)
+      (frameOf d s 2 t (bytes 1 (n % 8 + 16 * (force % 16)) ++ grantBytes a ++ grantBytes b ++ grantBytes c ++ grantBytes e))
       o
 
   unfoldable pub discoveryLaid : ℕ → ℕ → ℕ → ℕ → ℕ → ℕ → List ℕ → WriteLeft
   discoveryLaid sync force a b c e o =
       laidOut
       (headerIn d s t && leb sync 0xFFFF && leb force 1 && leb (a % 2 ^ 32) 0xFFFF && eqb b 0 && eqb c 0 && eqb e 0)
-      (frameOf d s 2 t (bytes 1 (9 + 16 * force) ++ grantBytes a ++ bytes 2 sync))
+      (frameOf d s 2 t (bytes 1 (cond (eqb force 1) 25 9) ++ grantBytes a ++ bytes 2 sync))
       o
 
   unfoldable pub reportLaid : ℕ → ℕ → ℕ → ℕ → ℕ → ℕ → List ℕ → WriteLeft

@@ -1,6 +1,7 @@
 // Writing a frame: the words of a message straight into octets.
 ghost use mathlib.Core.Path.{_≡_};
-ghost use mathlib.Core.Bool.{_&&_};
+ghost use mathlib.Core.Bool.{cond};
+ghost use lib.Dec.{eqb};
 ghost use mathlib.Core.List.{[], _++_};
 ghost use Prim.Native.Nat.{_+_, _≤_};
 ghost use lib.ListN.{length, take, drop, replicate};
@@ -9,7 +10,7 @@ ghost use Rattle.frame.specs.Layout.{frameOf};
 ghost use Rattle.writer.specs.Write.{over};
 ghost use Rattle.framewords.specs.Tells.{at};
 ghost use Rattle.framewrite.specs.Write.{writeLeft, writingOf, written, writeCall};
-ghost use Rattle.framewrite.specs.Steps.{headerIn, grantIn, forceIn, grantOver, gateLaid, discoveryLaid, reportLaid, registerReqLaid, registerLaid, registerAckLaid};
+ghost use Rattle.framewrite.specs.Steps.{headerIn, grantIn, forceIn, gateIn, grantOver, gateLaid, discoveryLaid, reportLaid, registerReqLaid, registerLaid, registerAckLaid};
 use frame::Body;
 use frame::Message;
 
@@ -85,6 +86,27 @@ fn force_in(force: u64, n: u64) -> bool
     false
 }
 
+// The four grants of a GATE; those that aren't there are its pad.
+fn lay_grants(o: &mut [u8], a: u64, b: u64, c: u64, d: u64)
+    requires { ⌜ 60 ≤ length (now o) ⌝ }
+    ensures { λ _. ⌜ now (o .exit) ≡ grantOver 39 (grantOver 33 (grantOver 27 (grantOver 21 (now (o .entry)) a) b) c) d ⌝ }
+{
+    lay_grant(o, 21, a);
+    lay_grant(o, 27, b);
+    lay_grant(o, 33, c);
+    lay_grant(o, 39, d);
+}
+
+fn gate_in(n: u64, force: u64, a: u64, b: u64, c: u64, d: u64) -> bool
+    ensures { λ r. ⌜ r ≡ gateIn n force a b c d ⌝ }
+{
+    force_in(force, n)
+        & grant_in(a, 0 < n)
+        & grant_in(b, 1 < n)
+        & grant_in(c, 2 < n)
+        & grant_in(d, 3 < n)
+}
+
 fn write_gate(w: &[u64], o: &mut [u8]) -> u8
     requires { ⌜ (10 ≤ length (now w)) × (60 ≤ length (now o)) ⌝ }
     ensures { λ r. ⌜ writeLeft r (now (o .exit)) ≡ gateLaid (at (now (w .entry)) 0) (at (now (w .entry)) 1) (at (now (w .entry)) 2) (at (now (w .entry)) 4) (at (now (w .entry)) 5) (at (now (w .entry)) 6) (at (now (w .entry)) 7) (at (now (w .entry)) 8) (at (now (w .entry)) 9) (now (o .entry)) ⌝ }
@@ -95,22 +117,20 @@ fn write_gate(w: &[u64], o: &mut [u8]) -> u8
     let b = w[7];
     let c = w[8];
     let d = w[9];
-    if header_in(w[0], w[1], w[2])
-        & force_in(force, n)
-        & grant_in(a, 0 < n)
-        & grant_in(b, 1 < n)
-        & grant_in(c, 2 < n)
-        & grant_in(d, 3 < n)
-    {
+    if header_in(w[0], w[1], w[2]) & gate_in(n, force, a, b, c, d) {
         begin(o, w[0], w[1], Body::GATE, w[2]);
-        lay(o, 20, 1, n + 16 * force);
-        lay_grant(o, 21, a);
-        lay_grant(o, 27, b);
-        lay_grant(o, 33, c);
-        lay_grant(o, 39, d);
+        lay(o, 20, 1, n % 8 + 16 * (force % 16));
+        lay_grants(o, a, b, c, d);
         return 0;
     }
     refuse(o)
+}
+
+// One grant, the discovery bit, and whether the grant's force bit.
+fn first_octet(force: u64) -> u64
+    ensures { λ r. ⌜ r ≡ cond (eqb force 1) 25 9 ⌝ }
+{
+    if force == 1 { 25 } else { 9 }
 }
 
 fn write_discovery(w: &[u64], o: &mut [u8]) -> u8
@@ -129,7 +149,7 @@ fn write_discovery(w: &[u64], o: &mut [u8]) -> u8
         & (w[9] == 0)
     {
         begin(o, w[0], w[1], Body::GATE, w[2]);
-        lay(o, 20, 1, 9 + 16 * force);
+        lay(o, 20, 1, first_octet(force));
         lay_grant(o, 21, grant);
         lay(o, 27, 2, sync);
         return 0;

@@ -1,25 +1,33 @@
+-- `framewrite::write` meets its promise.
+-- Assumes nothing.
 use borrow.Author.Needs.{needs}
+use mathlib.Core.Bool.{and-eq-true-iff}
+use borrow.Author.Tests.{leb-true}
+use lib.Dec.{leb}
+use Rattle.framewrite.specs.Write.{writeCall}
+use denote.Ref.{now}
+use lib.ListN.{length}
 use Rattle.framewrite.proofs.write.Statement.{statement}
 use Rattle.framewrite.proofs.write.Tie as tie
-use Rattle.framewrite.proofs.write.Reads as reads
-use Rattle.framewrite.proofs.write.Lts as lts
-use Rattle.framewrite.proofs.write_words.Reads as write-words-reads
 
--- src/lib.rt:262:9
 write-words-requires : tie.Need-write-words-requires
-write-words-requires c κs = ?
+write-words-requires c κs =
+    let a = c .before .before .before .before .args in
+    let words = length (now (a .message)) in
+    let octets = length (now (a .octets)) in
+    let both = and-eq-true-iff (leb 10 words) (leb 60 octets) .0 (c .before .if1 .taken) in
+    (leb-true 10 words (both .0), leb-true 60 octets (both .1))
 
--- src/lib.rt:262:9
 same-length : tie.Need-same-length
 same-length c = search needs
 
--- src/lib.rt:262:9
 returns : tie.Need-returns
-returns c = ?
+unfolding writeCall
+returns c = rw (c .before .before .write-words .ensures, c .before .before .before .before .if1 .taken)
 
--- src/lib.rt:258:1
 returns-2 : tie.Need-returns-2
-returns-2 c = ?
+unfolding writeCall
+returns-2 c = rw (c .if1 .left)
 
 pub write-spec : {M : Type 1} → statement M
 write-spec = tie.close (tie.spec write-words-requires same-length returns returns-2)
