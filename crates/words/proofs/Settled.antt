@@ -9,6 +9,8 @@ use Rattle.words.proofs.narrow.Kinds as narrow-kinds
 use Rattle.words.proofs.narrow.Reads as narrow
 use Rattle.words.proofs.of_drift.Kinds as of-drift-kinds
 use Rattle.words.proofs.of_drift.Reads as of-drift
+use Rattle.words.proofs.same.Kinds as same-kinds
+use Rattle.words.proofs.same.Reads as same
 
 pub lay-settles : SettlesLent 2 lay-kinds.ps lay-kinds.r (λ κs e. now (e .1 .0)) lay.Post
 lay-settles κs a e f x y p q = (refl, p ∙ sym q)
@@ -18,3 +20,6 @@ narrow-settles κs a e x y p q = p ∙ sym q
 
 pub of-drift-settles : Settles 0 of-drift-kinds.ps of-drift-kinds.r of-drift.Post
 of-drift-settles κs a e x y p q = p ∙ sym q
+
+pub same-settles : Settles 2 same-kinds.ps same-kinds.r same.Post
+same-settles κs a e x y p q = p ∙ sym q

@@ -1,13 +1,22 @@
 -- What words of 64 bits stand for, and how words are laid into lent memory.
 -- Assumes nothing.
 use Prim.Native.Nat.{ℕ, _-_, _^_, min}
-use mathlib.Core.List.{List, _++_}
+use mathlib.Core.Bool.{Bool, true, false, _&&_}
+use mathlib.Core.List.{List, [], _∷_, _++_}
+use lib.Dec.{eqb}
 use lib.IntN.{ℤ, pos, negsuc}
 use lib.ListN.{length, take, drop}
 
 -- a list over the beginning of another, as far as there is room; what stands behind it stays
 unfoldable pub laid : List ℕ → List ℕ → List ℕ
 laid from to = take (min (length from) (length to)) from ++ drop (min (length from) (length to)) to
+
+-- as many words, and each is the other's
+abbrev pub same : List ℕ → List ℕ → Bool
+same [] [] = true
+same [] (y ∷ b) = false
+same (x ∷ a) [] = false
+same (x ∷ a) (y ∷ b) = eqb x y && same a b
 
 -- a number of 32 bits as it is; one that is too large as the largest
 abbrev pub narrowed : ℕ → ℕ

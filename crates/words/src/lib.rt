@@ -2,7 +2,7 @@
 ghost use mathlib.Core.Path.{_≡_};
 ghost use Prim.Native.Nat.{min};
 ghost use lib.ListN.{length};
-ghost use Rattle.words.specs.Words.{laid, narrowed, driftWord};
+ghost use Rattle.words.specs.Words.{laid, same, narrowed, driftWord};
 
 // How many words both have.
 fn shorter(from: usize, to: usize) -> usize
@@ -21,6 +21,23 @@ pub fn lay(from: &[u64], to: &mut [u64])
         to[i] = from[i];
         i += 1;
     }
+}
+
+// Whether both are the same words.
+pub fn same(a: &[u64], b: &[u64]) -> bool
+    ensures { λ r. ⌜ r ≡ same (now (a .entry)) (now (b .entry)) ⌝ }
+{
+    if a.len() != b.len() {
+        return false;
+    }
+    let mut i = 0;
+    while i < a.len() {
+        if a[i] != b[i] {
+            return false;
+        }
+        i += 1;
+    }
+    true
 }
 
 // A word as a number of 32 bits. One that is too large is taken as the largest, which is no sound state's.
