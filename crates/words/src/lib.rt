@@ -30,14 +30,13 @@ pub fn same(a: &[u64], b: &[u64]) -> bool
     if a.len() != b.len() {
         return false;
     }
+    let mut met = true;
     let mut i = 0;
     while i < a.len() {
-        if a[i] != b[i] {
-            return false;
-        }
+        met = met & (a[i] == b[i]);
         i += 1;
     }
-    true
+    met
 }
 
 // A word as a number of 32 bits. One that is too large is taken as the largest, which is no sound state's.

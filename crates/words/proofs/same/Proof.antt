@@ -1,11 +1,10 @@
 -- `words::same` meets its promise: after i turns the first i words agree.
 -- Assumes nothing.
 use Prim.Native.Nat.{ℕ, _+_, _-_, _<_, _≤_}
-use mathlib.Core.Bool.{Bool, true, false, _&&_}
+use mathlib.Core.Bool.{Bool, true, false, _&&_, and-true, and-assoc}
 use mathlib.Core.List.{List}
-use mathlib.Core.Path.{_≡_, refl, ap}
+use mathlib.Core.Path.{_≡_, refl, sym, _∙_, ap}
 use borrow.Author.Needs.{needs}
-use borrow.Author.Tests.{eq-eqb, ne-eqb}
 use lib.Dec.{eqb}
 use lib.ListN.{length, drop, getD}
 use lib.Seq.{drop-cons, drop-length}
@@ -25,18 +24,25 @@ unlike a b h = split (same a b) refl
     split false e = refl
 
 -- what is left to compare: a word of each, and the rest
-turn : (a b : List ℕ) (i : ℕ) → i < length a → i < length b
+left : (a b : List ℕ) (i : ℕ) → i < length a → i < length b
     → same (drop i a) (drop i b) ≡ (eqb (getD a i 0) (getD b i 0) && same (drop (i + 1) a) (drop (i + 1) b))
-turn a b i ha hb = rw (drop-cons a i 0 ha, drop-cons b i 0 hb, add-one)
+left a b i ha hb = rw (drop-cons a i 0 ha, drop-cons b i 0 hb, add-one)
 
-end : (a b : List ℕ) (i : ℕ) → length a ≡ i → length b ≡ i → same (drop i a) (drop i b) ≡ true
-end a b i ha hb = rw (← ha, drop-length a, ha, ← hb, drop-length b)
+turn : (a b : List ℕ) (i : ℕ) (met t : Bool) → i < length a → i < length b → (met && same (drop i a) (drop i b)) ≡ t
+    → ((met && eqb (getD a i 0) (getD b i 0)) && same (drop (i + 1) a) (drop (i + 1) b)) ≡ t
+turn a b i met t ha hb e =
+    and-assoc met (eqb (getD a i 0) (getD b i 0)) (same (drop (i + 1) a) (drop (i + 1) b))
+    ∙ ap (λ (x : Bool). met && x) (sym (left a b i ha hb))
+    ∙ e
+
+end : (a b : List ℕ) (i : ℕ) (met t : Bool) → length a ≡ i → length b ≡ i → (met && same (drop i a) (drop i b)) ≡ t → met ≡ t
+end a b i met t ha hb e = sym (and-true met) ∙ (rw (← ha, drop-length a, ha, ← hb, drop-length b) at e)
 
 abbrev Inv-loop : tie.InvT-loop
-Inv-loop a b i₀ i = (i ≤ length a) × (length a ≡ length b) × (same (drop i a) (drop i b) ≡ same a b)
+Inv-loop a b met₀ i₀ met i = (i ≤ length a) × (length a ≡ length b) × ((met && same (drop i a) (drop i b)) ≡ same a b)
 
 abbrev μ-loop : tie.MeasureT-loop
-μ-loop a b i₀ i = length a - i
+μ-loop a b met₀ i₀ met i = length a - i
 
 returns : tie.Need-returns Inv-loop μ-loop
 returns c = unlike (c .before .args .a .now) (c .before .args .b .now) (c .if1 .taken)
@@ -44,26 +50,17 @@ returns c = unlike (c .before .args .a .now) (c .before .args .b .now) (c .if1 .
 loop-holds : tie.Need-loop-holds Inv-loop μ-loop
 loop-holds c = (omega arith, omega arith, refl)
 
-mul-if2 : tie.Need-mul-if2 Inv-loop μ-loop
-mul-if2 c = search needs
+mul-met : tie.Need-mul-met Inv-loop μ-loop
+mul-met c = search needs
 
-shared-slice-read-if2 : tie.Need-shared-slice-read-if2 Inv-loop μ-loop
-shared-slice-read-if2 c = search needs
+shared-slice-read-met : tie.Need-shared-slice-read-met Inv-loop μ-loop
+shared-slice-read-met c = search needs
 
-mul-if2-2 : tie.Need-mul-if2-2 Inv-loop μ-loop
-mul-if2-2 c = search needs
+mul-met-2 : tie.Need-mul-met-2 Inv-loop μ-loop
+mul-met-2 c = search needs
 
-shared-slice-read-if2-2 : tie.Need-shared-slice-read-if2-2 Inv-loop μ-loop
-shared-slice-read-if2-2 c = search needs
-
-returns-2 : tie.Need-returns-2 Inv-loop μ-loop
-returns-2 c =
-    let l = c .before .before .before .before in
-    let a = l .before .before .args .a .now in
-    let b = l .before .before .args .b .now in
-    let ha : l .loop .i < length a = omega arith in
-    let hb : l .loop .i < length b = omega arith in
-    rw (turn a b (l .loop .i) ha hb, ne-eqb _ _ (c .if2 .taken)) at (l .loop .inv .2)
+shared-slice-read-met-2 : tie.Need-shared-slice-read-met-2 Inv-loop μ-loop
+shared-slice-read-met-2 c = search needs
 
 add-i : tie.Need-add-i Inv-loop μ-loop
 add-i c = search needs
@@ -73,21 +70,21 @@ loop-less c = search needs
 
 loop-again : tie.Need-loop-again Inv-loop μ-loop
 loop-again c =
-    let l = c .before .before .before .before in
+    let l = c .before .before .before in
     let a = l .before .before .args .a .now in
     let b = l .before .before .args .b .now in
     let ha : l .loop .i < length a = omega arith in
     let hb : l .loop .i < length b = omega arith in
-    (omega arith, l .loop .inv .1, rw (turn a b (l .loop .i) ha hb, eq-eqb _ _ (c .if2 .left)) at (l .loop .inv .2))
+    (omega arith, l .loop .inv .1, turn a b (l .loop .i) (l .loop .met) _ ha hb (l .loop .inv .2))
 
-returns-3 : tie.Need-returns-3 Inv-loop μ-loop
-returns-3 c =
+returns-2 : tie.Need-returns-2 Inv-loop μ-loop
+returns-2 c =
     let l = c .before in
     let a = l .before .before .args .a .now in
     let b = l .before .before .args .b .now in
     let ha : length a ≡ l .loop .i = omega arith in
     let hb : length b ≡ l .loop .i = omega arith in
-    rw (end a b (l .loop .i) ha hb) at (l .loop .inv .2)
+    end a b (l .loop .i) (l .loop .met) (same a b) ha hb (l .loop .inv .2)
 
 pub same-spec : {M : Type 1} → statement M
 same-spec =
@@ -97,12 +94,11 @@ same-spec =
     μ-loop
     returns
     loop-holds
-    mul-if2
-    shared-slice-read-if2
-    mul-if2-2
-    shared-slice-read-if2-2
-    returns-2
+    mul-met
+    shared-slice-read-met
+    mul-met-2
+    shared-slice-read-met-2
     add-i
     loop-less
     loop-again
-    returns-3)
+    returns-2)
