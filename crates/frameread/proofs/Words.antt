@@ -2,7 +2,7 @@
 -- Assumes nothing.
 use Prim.Native.Nat.{ℕ, zero, suc, _+_, _-_, _*_, _/_, _%_, _^_, _≤_, _<_}
 use mathlib.Core.Path.{_≡_, refl, sym, ap, _∙_}
-use mathlib.Core.Bool.{Bool, true, false, cond, _&&_, _||_, and-eq-true-iff, or-assoc, or-false}
+use mathlib.Core.Bool.{Bool, true, false, cond, _&&_, and-eq-true-iff}
 use mathlib.Core.Logic.{⊎-elim}
 use mathlib.Core.List.{List, [], _∷_, _++_}
 use native.Mathlib.Nat.{div-lt-iff-lt-mul}
@@ -22,13 +22,6 @@ use Rattle.framewords.specs.Laws.{req-flag-word, flag-word, ack-flag-word}
 use Rattle.framewords.specs.Message.{messageWords, fieldsOf}
 use Rattle.frameread.specs.Read.{readLeft, told}
 use Rattle.frameread.specs.Steps.{bodied, wordAt, ranged, clear, discoveryRead, grantsRead}
-
--- the tests of a flag, as the code has them
-pub two-tests : (a b : Bool) → (a || (b || false)) ≡ (a || b)
-two-tests a b = rw or-false
-
-pub four-tests : (a b c d : Bool) → (a || (b || (c || (d || false)))) ≡ (a || b || c || d)
-four-tests a b c d = simp (or-assoc, or-false)
 
 pub register-req-words : (l m : List ℕ) → oneOf (fieldOf l 20 1) (1 ∷ 3 ∷ []) ≡ true
     → bodied l m 3 (fieldOf l 20 1) (fieldOf l 21 1) 0 0 0 0 ≡ told (ranged (oneOf (fieldOf l 20 1) (1 ∷ 3 ∷ [])) l (registerReqAt l)) m

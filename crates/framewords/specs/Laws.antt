@@ -1,12 +1,12 @@
--- Ten words one by one, when words are just those of what they tell, and the flags by their numbers.
+-- Ten words one by one, and the flags by their numbers.
 -- Assumes nothing.
 use Prim.Native.Nat.{ℕ, _≤_}
 use mathlib.Core.Path.{_≡_, refl, sym, ap}
-use mathlib.Core.Bool.{Bool, true, false, cond, _||_, and-eq-true-iff, true≢false}
+use mathlib.Core.Bool.{Bool, true, false, _||_, or-assoc, or-false, true≢false}
 use mathlib.Core.Logic.{_⊎_, inl, inr, ⊎-elim}
 use mathlib.Core.List.{List, [], _∷_}
 use native.Mathlib.Omega.{arith}
-use borrow.Author.Tests.{eq-eqb, eqb-true}
+use borrow.Author.Tests.{eqb-true}
 use lib.Dec.{eqb}
 use lib.ListN.{length, take, drop}
 use lib.Seq.{drop-cons}
@@ -20,7 +20,7 @@ use Rattle.frame.specs.declared.RegisterReqFlag.{RegisterReqFlag}
 use Rattle.frame.specs.declared.RegisterReqFlag.the-variants as request
 use Rattle.laws.specs.Cases.{decided}
 use Rattle.reader.specs.Decode.{registerReqFlagOf, registerFlagOf, registerAckFlagOf}
-use Rattle.framewords.specs.Tells.{at, same}
+use Rattle.framewords.specs.Tells.{at}
 
 -- a list's first ten words, and what stands behind them
 pub opened : (w : List ℕ) → 10 ≤ length w
@@ -45,17 +45,12 @@ pub first-ten : (w : List ℕ) → 10 ≤ length w
     → take 10 w ≡ at w 0 ∷ at w 1 ∷ at w 2 ∷ at w 3 ∷ at w 4 ∷ at w 5 ∷ at w 6 ∷ at w 7 ∷ at w 8 ∷ at w 9 ∷ []
 first-ten w h = ap (λ (l : List ℕ). take 10 l) (opened w h)
 
-pub same-refl : (w : List ℕ) → same w w ≡ true
-same-refl [] = refl
-same-refl (x ∷ w) = rw (eq-eqb x x refl, same-refl w)
+-- the tests of a flag, as code has them
+pub two-tests : (a b : Bool) → (a || (b || false)) ≡ (a || b)
+two-tests a b = rw or-false
 
-pub same-is : (a b : List ℕ) → same a b ≡ true → a ≡ b
-same-is [] [] h = refl
-same-is [] (y ∷ b) h = absurd (true≢false (sym h))
-same-is (x ∷ a) [] h = absurd (true≢false (sym h))
-same-is (x ∷ a) (y ∷ b) h =
-    let both = and-eq-true-iff (eqb x y) (same a b) .0 h in
-    rw (eqb-true x y (both .0), same-is a b (both .1))
+pub four-tests : (a b c d : Bool) → (a || (b || (c || (d || false)))) ≡ (a || b || c || d)
+four-tests a b c d = simp (or-assoc, or-false)
 
 -- a number that is one of several is the first or one of the others
 one : (f x : ℕ) (xs : List ℕ) → oneOf f (x ∷ xs) ≡ true → (f ≡ x) ⊎ (oneOf f xs ≡ true)

@@ -1,7 +1,7 @@
 -- The message that any ten words of 64 bits tell, and whether they are just its words.
 -- Assumes nothing.
-use Prim.Native.Nat.{ℕ, _/_, _%_, _^_}
-use mathlib.Core.Bool.{Bool, true, false, cond, _&&_}
+use Prim.Native.Nat.{ℕ, _-_, _/_, _%_, _^_, min}
+use mathlib.Core.Bool.{Bool, cond}
 use mathlib.Core.List.{List, [], _∷_}
 use lib.Dec.{eqb}
 use lib.ListN.{take, drop, getD}
@@ -11,10 +11,14 @@ use Rattle.frame.specs.declared.Body.the-variants.{Gate, Discovery, Report, Reg
 use Rattle.frame.specs.declared.Grant.{Grant}
 use Rattle.frame.specs.declared.Message.{Message}
 use Rattle.framewords.specs.Message.{messageWords}
-use Rattle.fields.specs.Fields.{octetOf, shortOf, countOf, quantaOf}
+use Rattle.words.specs.Words.{same}
 
 abbrev pub at : List ℕ → ℕ → ℕ
 at w i = getD w i 0
+
+-- a word as a number of so many bits; one that is too large as the largest
+abbrev pub within : ℕ → ℕ → ℕ
+within bits w = min w (2 ^ bits - 1)
 
 abbrev pub grantOf : ℕ → Bool → Grant
 grantOf w force = record { start = record { 0 = w / 2 ^ 32 }; length = record { 0 = w % 2 ^ 32 }; force = force }
@@ -28,21 +32,20 @@ grantsOf force (w ∷ ws) = grantOf w (eqb (force % 2) 1) ∷ grantsOf (force / 
 unfoldable pub bodyOf : List ℕ → Body
 bodyOf w =
     cond (eqb (at w 3) 0) (Gate (few (grantsOf (at w 5) (take (at w 4) (drop 6 w)))))
-    (cond (eqb (at w 3) 1) (Discovery (grantOf (at w 6) (eqb (at w 5) 1)) (quantaOf (at w 4)))
+    (cond (eqb (at w 3) 1) (Discovery (grantOf (at w 6) (eqb (at w 5) 1)) (record { 0 = within 32 (at w 4) }))
     (cond (eqb (at w 3) 2) Report
-    (cond (eqb (at w 3) 3) (RegisterReq (registerReqFlagOf (at w 4)) (octetOf (at w 5)))
-    (cond (eqb (at w 3) 4) (Register (shortOf (at w 5)) (registerFlagOf (at w 4)) (quantaOf (at w 6)) (octetOf (at w 7)))
-    (RegisterAck (registerAckFlagOf (at w 4)) (shortOf (at w 5)) (quantaOf (at w 6)))))))
+    (cond (eqb (at w 3) 3) (RegisterReq (registerReqFlagOf (at w 4)) (within 8 (at w 5)))
+    (cond (eqb (at w 3) 4) (Register (within 16 (at w 5)) (registerFlagOf (at w 4)) (record { 0 = within 32 (at w 6) }) (within 8 (at w 7)))
+    (RegisterAck (registerAckFlagOf (at w 4)) (within 16 (at w 5)) (record { 0 = within 32 (at w 6) }))))))
 
 unfoldable pub messageOf : List ℕ → Message
 messageOf w =
-    record { destination = record { 0 = at w 0 }; source = record { 0 = at w 1 }; timestamp = countOf (at w 2); body = bodyOf w }
-
-abbrev pub same : List ℕ → List ℕ → Bool
-same [] [] = true
-same [] (y ∷ b) = false
-same (x ∷ a) [] = false
-same (x ∷ a) (y ∷ b) = eqb x y && same a b
+    record {
+      destination = record { 0 = at w 0 };
+      source = record { 0 = at w 1 };
+      timestamp = record { 0 = within 32 (at w 2) };
+      body = bodyOf w;
+    }
 
 -- the words are those of a message: of the one that they tell
 unfoldable pub isMessage : List ℕ → Bool

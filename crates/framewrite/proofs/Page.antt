@@ -2,7 +2,7 @@
 -- Assumes nothing.
 use Prim.Native.Nat.{ℕ, zero, suc, _+_, _-_, _*_, _/_, _%_, _^_, _≤_, _<_, min}
 use mathlib.Core.Path.{_≡_, refl, sym, ap, _∙_}
-use mathlib.Core.Bool.{Bool, true, false, cond, _&&_, _||_, or-assoc, or-false, true≢false}
+use mathlib.Core.Bool.{Bool, true, false, cond, _||_, true≢false}
 use mathlib.Core.Logic.{⊎-elim}
 use mathlib.Core.List.{List, [], _∷_, _++_}
 use native.Mathlib.Omega.{arith}
@@ -16,7 +16,8 @@ use Rattle.frame.specs.Reading.{oneOf}
 use Rattle.frame.specs.declared.Body.{Body}
 use Rattle.range.specs.Fits.{fitsBody, fitsMessage}
 use Rattle.reader.specs.Decode.{registerReqFlagOf, registerFlagOf, registerAckFlagOf}
-use Rattle.framewords.specs.Laws.{same-refl, same-is, req-flag-word, flag-word, ack-flag-word, req-flag-is, flag-is, ack-flag-is}
+use Rattle.words.specs.Laws.{same-is, same-self}
+use Rattle.framewords.specs.Laws.{two-tests, four-tests, req-flag-word, flag-word, ack-flag-word, req-flag-is, flag-is, ack-flag-is}
 use Rattle.framewords.specs.Message.{kindOf, fieldsOf, messageWords}
 use Rattle.framewords.specs.Tells.{at, bodyOf, messageOf, isMessage}
 use Rattle.writer.specs.Write.{writeOf}
@@ -49,7 +50,7 @@ module _ (d s t k : ℕ) (l o : List ℕ) where
       → Has d s t k l (bodyOf words) f → writeLeft 0 (f ++ drop 60 o) ≡ written (writingOf words) o
   unfolding writingOf isMessage messageOf messageWords writeOf fitsMessage encode
   taken f hd hs ht h =
-      rw (least t 0xFFFFFFFF ht, h .kind, h .words, same-refl words, hd, hs, h .fits, h .frame)
+      rw (least t 0xFFFFFFFF ht, h .kind, h .words, same-self words, hd, hs, h .fits, h .frame)
 
   none : (isMessage words ≡ true → fitsMessage (messageOf words) ≡ true → ⊥)
       → writeLeft 4 (replicate 60 0 ++ drop 60 o) ≡ written (writingOf words) o
@@ -95,12 +96,6 @@ place p k = ap (λ (w : List ℕ). at w k) p
 
 zero-of : (x : ℕ) → 0 ≡ x → eqb x 0 ≡ true
 zero-of x h = eq-eqb x 0 (sym h)
-
-two-flags : (a b : Bool) → (a || (b || false)) ≡ (a || b)
-two-flags a b = rw or-false
-
-four-flags : (a b c d : Bool) → (a || (b || (c || (d || false)))) ≡ (a || b || c || d)
-four-flags a b c d = simp (or-assoc, or-false)
 
 -- a length or sync time of two octets
 wide : (x : ℕ) → leb x 0xFFFF ≡ true → min x 0xFFFFFFFF ≡ x
@@ -158,7 +153,7 @@ module _ (d s t : ℕ) (o : List ℕ) where
       ((eqb flag 1 || eqb flag 3) ∷ leb pending 0xFF ∷ eqb a 0 ∷ eqb b 0 ∷ eqb c 0 ∷ eqb e 0 ∷ [])
       (frameOf d s 4 t (bytes 1 flag ++ bytes 1 pending))
       (λ h.
-      let is = req-flag-word flag (two-flags (eqb flag 1) (eqb flag 3) ∙ h .0) in
+      let is = req-flag-word flag (two-tests (eqb flag 1) (eqb flag 3) ∙ h .0) in
       let short = least pending 0xFF (h .1 .0) in
       record {
         kind = refl;
@@ -177,7 +172,7 @@ module _ (d s t : ℕ) (o : List ℕ) where
       (λ _ p _.
       let i = place p in
       let one : oneOf flag (1 ∷ 3 ∷ []) ≡ true = rw (i 0) at (req-flag-is (registerReqFlagOf flag)) in
-      (sym (two-flags (eqb flag 1) (eqb flag 3)) ∙ one, (narrow pending 0xFF (i 1), (zero-of a (i 2), (zero-of b (i 3), (zero-of c (i 4), (zero-of e (i 5), tt)))))))
+      (sym (two-tests (eqb flag 1) (eqb flag 3)) ∙ one, (narrow pending 0xFF (i 1), (zero-of a (i 2), (zero-of b (i 3), (zero-of c (i 4), (zero-of e (i 5), tt)))))))
 
   pub register-page : (flag port sync pending a b : ℕ)
       → registerLaid d s t flag port sync pending a b o ≡ written (writingOf (d ∷ s ∷ t ∷ 4 ∷ flag ∷ port ∷ sync ∷ pending ∷ a ∷ b ∷ [])) o
@@ -187,7 +182,7 @@ module _ (d s t : ℕ) (o : List ℕ) where
       ((eqb flag 1 || eqb flag 2 || eqb flag 3 || eqb flag 4) ∷ leb port 0xFFFF ∷ leb sync 0xFFFF ∷ leb pending 0xFF ∷ eqb a 0 ∷ eqb b 0 ∷ [])
       (frameOf d s 5 t (bytes 2 port ++ bytes 1 flag ++ bytes 2 sync ++ bytes 1 pending))
       (λ h.
-      let is = flag-word flag (four-flags (eqb flag 1) (eqb flag 2) (eqb flag 3) (eqb flag 4) ∙ h .0) in
+      let is = flag-word flag (four-tests (eqb flag 1) (eqb flag 2) (eqb flag 3) (eqb flag 4) ∙ h .0) in
       let whole = least port 0xFFFF (h .1 .0) in
       let long = wide sync (h .1 .1 .0) in
       let short = least pending 0xFF (h .1 .1 .1 .0) in
@@ -200,7 +195,7 @@ module _ (d s t : ℕ) (o : List ℕ) where
       (λ _ p q.
       let i = place p in
       let one : oneOf flag (1 ∷ 2 ∷ 3 ∷ 4 ∷ []) ≡ true = rw (i 0) at (flag-is (registerFlagOf flag)) in (
-        sym (four-flags (eqb flag 1) (eqb flag 2) (eqb flag 3) (eqb flag 4)) ∙ one,
+        sym (four-tests (eqb flag 1) (eqb flag 2) (eqb flag 3) (eqb flag 4)) ∙ one,
         (narrow port 0xFFFF (i 1), (rw (i 2) at q, (narrow pending 0xFF (i 3), (zero-of a (i 4), (zero-of b (i 5), tt))))),
       ))
 
@@ -212,7 +207,7 @@ module _ (d s t : ℕ) (o : List ℕ) where
       ((eqb flag 0 || eqb flag 1) ∷ leb port 0xFFFF ∷ leb sync 0xFFFF ∷ eqb a 0 ∷ eqb b 0 ∷ eqb c 0 ∷ [])
       (frameOf d s 6 t (bytes 1 flag ++ bytes 2 port ++ bytes 2 sync))
       (λ h.
-      let is = ack-flag-word flag (two-flags (eqb flag 0) (eqb flag 1) ∙ h .0) in
+      let is = ack-flag-word flag (two-tests (eqb flag 0) (eqb flag 1) ∙ h .0) in
       let whole = least port 0xFFFF (h .1 .0) in
       let long = wide sync (h .1 .1 .0) in
       record {
@@ -225,7 +220,7 @@ module _ (d s t : ℕ) (o : List ℕ) where
       (λ _ p q.
       let i = place p in
       let one : oneOf flag (0 ∷ 1 ∷ []) ≡ true = rw (i 0) at (ack-flag-is (registerAckFlagOf flag)) in (
-        sym (two-flags (eqb flag 0) (eqb flag 1)) ∙ one,
+        sym (two-tests (eqb flag 0) (eqb flag 1)) ∙ one,
         (narrow port 0xFFFF (i 1), (rw (i 2) at q, (zero-of a (i 3), (zero-of b (i 4), (zero-of c (i 5), tt))))),
       ))
 

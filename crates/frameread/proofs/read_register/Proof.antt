@@ -2,8 +2,9 @@
 -- Assumes nothing.
 use borrow.Author.Needs.{needs}
 use denote.Ref.{now}
+use Rattle.framewords.specs.Laws.{four-tests}
 use Rattle.framewords.specs.Message.{messageWords}
-use Rattle.frameread.proofs.Words.{four-tests, register-words}
+use Rattle.frameread.proofs.Words.{register-words}
 use Rattle.frameread.proofs.read_register.Statement.{statement}
 use Rattle.frameread.proofs.read_register.Tie as tie
 

@@ -2,8 +2,9 @@
 -- Assumes nothing.
 use borrow.Author.Needs.{needs}
 use denote.Ref.{now}
+use Rattle.framewords.specs.Laws.{two-tests}
 use Rattle.framewords.specs.Message.{messageWords}
-use Rattle.frameread.proofs.Words.{two-tests, register-ack-words}
+use Rattle.frameread.proofs.Words.{register-ack-words}
 use Rattle.frameread.proofs.read_register_ack.Statement.{statement}
 use Rattle.frameread.proofs.read_register_ack.Tie as tie
 

@@ -2,8 +2,9 @@
 -- Assumes nothing.
 use borrow.Author.Needs.{needs}
 use denote.Ref.{now}
+use Rattle.framewords.specs.Laws.{two-tests}
 use Rattle.framewords.specs.Message.{messageWords}
-use Rattle.frameread.proofs.Words.{two-tests, register-req-words}
+use Rattle.frameread.proofs.Words.{register-req-words}
 use Rattle.frameread.proofs.read_register_req.Statement.{statement}
 use Rattle.frameread.proofs.read_register_req.Tie as tie
 
