@@ -3,5 +3,4 @@ pub mod HeadSettled
 mod Laid
 mod Lent
 mod Passing
-mod Room
 pub mod Settled

@@ -1,4 +1,2 @@
 pub mod Calls
 pub mod Passing
-pub mod Read
-pub mod Write

@@ -1,11 +1,11 @@
 // The C face: the caller keeps a box, or a head and its table, as words in blocks, and lends what a call hands out.
 ghost use mathlib.Core.Path.{_≡_};
 ghost use Prim.Native.Nat.{_≤_};
-ghost use lib.ListN.{length, take};
+ghost use lib.ListN.{length};
 ghost use Rattle.crustnewt.specs.Calls.{told, left, wordsAt, boxAt, isLent, heardOf, laidOne, laidBoth, laidFrames, toldOf, handed, settled, freshCall, boxCall, nextCall};
 ghost use Rattle.crustnewt.specs.Passing.{movedOn, passed, passedOn};
-ghost use Rattle.crustnewt.specs.Read.{readLeft, readCall};
-ghost use Rattle.crustnewt.specs.Write.{writeLeft, hasRoom, writingOf, writeCall};
+ghost use Rattle.frameread.specs.Read.{readLeft, readCall};
+ghost use Rattle.framewrite.specs.Write.{writeLeft, writeCall};
 ghost use Rattle.boxwords.specs.Box.{boxWords};
 ghost use Rattle.words.specs.Words.{laid};
 ghost use Rattle.floorbox.specs.Answer.{refused};

@@ -10,7 +10,6 @@ use Rattle.reader.specs.Decode.{bit, quantaAt, grantAt, few}
 use Rattle.frame.specs.Reading.{refusal}
 use Rattle.frame.specs.declared.Body.{Body}
 use Rattle.frame.specs.declared.Body.the-variants.{Gate, Discovery}
-use Rattle.frame.specs.declared.Message.{Message}
 use Rattle.frame.specs.declared.Reading.{Reading}
 use Rattle.frame.specs.declared.Reply.the-variants.{Done, Range}
 use Rattle.frameread.specs.Read.{ReadLeft, readLeft}

@@ -8,7 +8,7 @@ use mathlib.Core.List.{List, [], _∷_, _++_}
 use native.Mathlib.Nat.{pow-suc, pow-le-pow-right, div-eq-of-lt, div-lt-iff-lt-mul}
 use native.Mathlib.Omega.{arith}
 use borrow.Author.Tests.{eqb-true, leb-true, eq-eqb, le-leb}
-use lib.Dec.{eqb, leb, ltb}
+use lib.Dec.{leb, ltb}
 use lib.ListN.{length, take, replicate}
 use lib.Pow.{pow-pos}
 use Rattle.laws.specs.Cases.{decided}
@@ -22,7 +22,7 @@ use Rattle.reader.specs.Decode.{few}
 use Rattle.framewords.specs.Tells.{grantsOf, bodyOf}
 use Rattle.framewrite.specs.Write.{writingOf, written}
 use Rattle.framewrite.specs.Steps.{grantIn, forceIn, gateIn, grantBytes, gateLaid}
-use Rattle.framewrite.proofs.Chain.{Each, each, passed}
+use Rattle.framewrite.proofs.Chain.{each, passed}
 use Rattle.framewrite.proofs.Page.{bodyWords, Has, place, grant-word, paged}
 
 -- a grant's word where it is there, and 0 where it isn't; and whether its length then has two octets

@@ -1,14 +1,14 @@
 -- What each kind lays out is what the page answers: the writer's frame of the message that the words are the words of.
 -- Assumes nothing.
-use Prim.Native.Nat.{ℕ, zero, suc, _+_, _-_, _*_, _/_, _%_, _^_, _≤_, _<_, min}
+use Prim.Native.Nat.{ℕ, zero, suc, _+_, _-_, _*_, _/_, _%_, _^_, _≤_, min}
 use mathlib.Core.Path.{_≡_, refl, sym, ap, _∙_}
 use mathlib.Core.Bool.{Bool, true, false, cond, _||_, true≢false}
 use mathlib.Core.Logic.{⊎-elim}
 use mathlib.Core.List.{List, [], _∷_, _++_}
 use native.Mathlib.Omega.{arith}
 use borrow.Author.Tests.{eqb-true, leb-true, eq-eqb, ne-eqb, le-leb}
-use lib.Dec.{eqb, leb, ltb}
-use lib.ListN.{length, take, drop, getD, replicate}
+use lib.Dec.{eqb, leb}
+use lib.ListN.{length, drop, replicate}
 use Rattle.laws.specs.Cases.{decided, either}
 use Rattle.octets.specs.Octets.{onto, bytes}
 use Rattle.frame.specs.Layout.{frameOf, opcodeOf, firstOctet, bodyOctets, encode}
