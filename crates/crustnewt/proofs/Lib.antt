@@ -1,4 +1,3 @@
 -- What the proofs of several functions use, and what the promises settle.
 pub mod HeadSettled
-mod Room
 pub mod Settled

@@ -1,10 +1,8 @@
 // The C face: the caller keeps a box, or a head and its table, as words in blocks, and lends what a call hands out.
 ghost use mathlib.Core.Path.{_≡_};
-ghost use Prim.Native.Nat.{_≤_};
-ghost use lib.ListN.{length, take};
-ghost use Rattle.crustnewt.specs.Read.{readLeft, readCall};
-ghost use Rattle.crustnewt.specs.Write.{writeLeft, hasRoom, writingOf, writeCall};
 ghost use Rattle.boxcall.specs.Calls.{left, heardOf, freshCall, boxCall, nextCall};
+ghost use Rattle.frameread.specs.Read.{readLeft, readCall};
+ghost use Rattle.framewrite.specs.Write.{writeLeft, writeCall};
 ghost use Rattle.floorbox.specs.Box.{registerOf, deregisterOf, tickOf};
 ghost use Rattle.headcall.specs.Calls.{left as headLeft, begunLeft, servedOf, heardOf as headHeard, begunOf};
 ghost use Rattle.headcall.specs.Gate.{askedOf};
@@ -12,17 +10,7 @@ ghost use Rattle.judging.specs.declared.Request.{Request as Requested};
 use clock::Count;
 use clock::Quanta;
 use frame::Address;
-use frame::Reply;
-use frame::Writing;
 use judging::Request;
-
-// A lent block or slice that is too short: no number of the card.
-const SHORT: u8 = 100;
-
-// Words of a message, octets of its frame.
-const MESSAGE: usize = 17;
-
-const FRAME: usize = 60;
 
 // A box that has not begun.
 #[no_mangle]
@@ -100,44 +88,7 @@ pub extern "C" fn crustnewt_box_next_to_send<'a>(
 pub extern "C" fn crustnewt_read(octets: &[u8], message: &mut [u64]) -> u8
     ensures { λ r. ⌜ readLeft r (now (message .exit)) ≡ readCall (now (octets .entry)) (now (message .entry)) ⌝ }
 {
-    if message.len() < MESSAGE {
-        return SHORT;
-    }
-    let reading = reader::read(octets);
-    let reply = reading.reply;
-    let read = reading.message;
-    let told = framewords::message_words(read);
-    words::lay(&told, message);
-    reply.number()
-}
-
-fn has_room(message: usize, octets: usize) -> bool
-    ensures { λ r. ⌜ r ≡ hasRoom message octets ⌝ }
-{
-    (MESSAGE <= message) & (FRAME <= octets)
-}
-
-fn first_words(message: &[u64]) -> [u64; 17]
-    requires { ⌜ 17 ≤ length (now message) ⌝ }
-    ensures { λ r. ⌜ r ≡ take 17 (now (message .entry)) ⌝ }
-{
-    let mut words = [0u64; 17];
-    words::lay(message, &mut words);
-    words
-}
-
-// Words that are no message's are refused as a field out of range is.
-fn writing_of(words: [u64; 17]) -> Writing
-    ensures { λ r. ⌜ r ≡ writingOf words ⌝ }
-{
-    let message = framewords::message_of(words);
-    if framewords::has_words(message, words) {
-        return writer::write(message);
-    }
-    Writing {
-        reply: Reply::Range,
-        octets: [0u8; 60],
-    }
+    frameread::read(octets, message)
 }
 
 // The words of a message, written into the octets of its frame; on a refusal they are zero.
@@ -145,14 +96,7 @@ fn writing_of(words: [u64; 17]) -> Writing
 pub extern "C" fn crustnewt_write(message: &[u64], octets: &mut [u8]) -> u8
     ensures { λ r. ⌜ writeLeft r (now (octets .exit)) ≡ writeCall (now (message .entry)) (now (octets .entry)) ⌝ }
 {
-    if has_room(message.len(), octets.len()) {
-        let writing = writing_of(first_words(message));
-        let reply = writing.reply;
-        let frame = writing.octets;
-        bytes::copy(&frame, octets);
-        return reply.number();
-    }
-    SHORT
+    framewrite::write(message, octets)
 }
 
 // A head that has not begun, over as many links as are lent.

@@ -1,0 +1,4 @@
+pub mod Chain
+pub mod Page
+pub mod Gate
+pub mod Settled

@@ -1,0 +1,117 @@
+-- `framewrite::write_register_ack` meets its promise.
+-- Assumes nothing.
+use borrow.Author.Needs.{needs}
+use Rattle.octets.specs.Octets.{onto}
+use Rattle.framewrite.specs.Steps.{registerAckLaid}
+use Rattle.framewrite.proofs.write_register_ack.Statement.{statement}
+use Rattle.framewrite.proofs.write_register_ack.Tie as tie
+
+shared-slice-read-flag : tie.Need-shared-slice-read-flag
+shared-slice-read-flag c = search needs
+
+shared-slice-read-port : tie.Need-shared-slice-read-port
+shared-slice-read-port c = search needs
+
+shared-slice-read-sync : tie.Need-shared-slice-read-sync
+shared-slice-read-sync c = search needs
+
+shared-slice-read-header-in : tie.Need-shared-slice-read-header-in
+shared-slice-read-header-in c = search needs
+
+shared-slice-read-header-in-2 : tie.Need-shared-slice-read-header-in-2
+shared-slice-read-header-in-2 c = search needs
+
+shared-slice-read-header-in-3 : tie.Need-shared-slice-read-header-in-3
+shared-slice-read-header-in-3 c = search needs
+
+header-in-requires : tie.Need-header-in-requires
+header-in-requires c κs = search needs
+
+shared-slice-read-if1 : tie.Need-shared-slice-read-if1
+shared-slice-read-if1 c = search needs
+
+shared-slice-read-if1-2 : tie.Need-shared-slice-read-if1-2
+shared-slice-read-if1-2 c = search needs
+
+shared-slice-read-if1-3 : tie.Need-shared-slice-read-if1-3
+shared-slice-read-if1-3 c = search needs
+
+shared-slice-read-begin : tie.Need-shared-slice-read-begin
+shared-slice-read-begin c = search needs
+
+shared-slice-read-begin-2 : tie.Need-shared-slice-read-begin-2
+shared-slice-read-begin-2 c = search needs
+
+shared-slice-read-begin-3 : tie.Need-shared-slice-read-begin-3
+shared-slice-read-begin-3 c = search needs
+
+begin-requires : tie.Need-begin-requires
+begin-requires c κs = search needs
+
+lay-requires : tie.Need-lay-requires
+lay-requires c κs = search needs
+
+lay-requires-2 : tie.Need-lay-requires-2
+lay-requires-2 c κs = search needs
+
+lay-requires-3 : tie.Need-lay-requires-3
+lay-requires-3 c κs = search needs
+
+same-length : tie.Need-same-length
+same-length c = search needs
+
+returns : tie.Need-returns
+unfolding onto registerAckLaid
+returns c =
+    let i = c .before .before .before .before .before .before .before .before .before .before .before .before .before .before .before .before .before .before .before in
+    rw (
+      c .before .before .lay3 .ensures,
+      c .before .before .before .before .before .before .lay2 .ensures,
+      c .before .before .before .before .before .before .before .before .before .before .lay .ensures,
+      c .before .before .before .before .before .before .before .before .before .before .before .before .before .before .begin .ensures,
+      ← i .before .before .before .before .header-in .ensures,
+      i .if1 .taken,
+    )
+
+refuse-requires : tie.Need-refuse-requires
+refuse-requires c κs = search needs
+
+same-length-2 : tie.Need-same-length-2
+same-length-2 c = search needs
+
+returns-2 : tie.Need-returns-2
+unfolding registerAckLaid
+returns-2 c =
+    let i = c .before .before .before .before in
+    rw (
+      c .before .before .refuse .ensures,
+      ← i .before .before .before .before .header-in .ensures,
+      i .if1 .left,
+    )
+
+pub write-register-ack-spec : {M : Type 1} → statement M
+write-register-ack-spec =
+    tie.close
+    (tie.spec
+    shared-slice-read-flag
+    shared-slice-read-port
+    shared-slice-read-sync
+    shared-slice-read-header-in
+    shared-slice-read-header-in-2
+    shared-slice-read-header-in-3
+    header-in-requires
+    shared-slice-read-if1
+    shared-slice-read-if1-2
+    shared-slice-read-if1-3
+    shared-slice-read-begin
+    shared-slice-read-begin-2
+    shared-slice-read-begin-3
+    begin-requires
+    lay-requires
+    lay-requires-2
+    lay-requires-3
+    same-length
+    returns
+    refuse-requires
+    same-length-2
+    returns-2)
