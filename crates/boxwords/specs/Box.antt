@@ -136,6 +136,7 @@ boxWords b = frontWords (frontIn b) ++ map entryWord (b .processes .list .entrie
 unfoldable pub boxOf : List ℕ → FloorBox
 boxOf w = boxed (frontOf w) (map entryOf (drop 13 w))
 
+-- all of them are 0
 abbrev pub isClear : List ℕ → Bool
 isClear [] = true
 isClear (x ∷ l) = eqb x 0 && isClear l

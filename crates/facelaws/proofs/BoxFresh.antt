@@ -1,6 +1,5 @@
 -- What a fresh box leaves, word for word.
 -- Assumes nothing.
-use mathlib.Core.Path.{refl}
 use Rattle.floorbox.specs.Box.{freshOf}
 use Rattle.boxwords.specs.Box.{boxWords, frontWords}
 use Rattle.boxwords.specs.Told.{listed, toldWords}

@@ -1,9 +1,9 @@
 -- Which words the calls of the box take, and what they unpack.
 -- Assumes nothing.
-use Prim.Native.Nat.{ℕ, _+_, _-_, _/_, _≤_, _<_}
+use Prim.Native.Nat.{ℕ, _-_, _≤_}
 use mathlib.Core.Path.{_≡_, refl, sym, ap, subst, _∙_}
-use mathlib.Core.Bool.{Bool, true, false, _&&_, and-false, and-eq-true-iff, false≢true}
-use mathlib.Core.List.{List, [], _∷_, _++_, map}
+use mathlib.Core.Bool.{true, false, _&&_, and-false, and-eq-true-iff, false≢true}
+use mathlib.Core.List.{List, [], _∷_, map}
 use mathlib.Core.Logic.{_≢_, ⊎-elim}
 use native.Mathlib.Omega.{arith}
 use borrow.Author.Tests.{le-leb, lt-leb, le-ltb, eq-eqb, ne-eqb}
@@ -13,24 +13,26 @@ use lib.ListN.{length, take, drop, replicate, length-take, length-drop, length-m
 use Rattle.laws.specs.Cases.{either, decided}
 use Rattle.clock.specs.Numbers.{quantaOf}
 use Rattle.frame.specs.Card.{numberOf}
+use Rattle.frame.specs.declared.Reply.the-variants.{Done}
 use Rattle.reader.specs.Decode.{readOf}
 use Rattle.grants.specs.Listed.{none}
-use Rattle.light.specs.declared.Light.{Light}
+use Rattle.floorbox.specs.Answer as answers
 use Rattle.floorbox.specs.Answer.{accepted}
 use Rattle.floorbox.specs.Box.{soundOf}
 use Rattle.floorbox.specs.Send.{fitsIn, sendOf}
 use Rattle.floorbox.specs.declared.Answer.{Answer}
 use Rattle.floorbox.specs.declared.FloorBox.{FloorBox}
 use Rattle.boxlaws.specs.Calls as core
-use Rattle.boxlaws.specs.Calls.{Call, Outcome, unsound, refuses, accepts, outcome, answer}
+use Rattle.boxlaws.specs.Calls.{Call, answer, Outcome, unsound, refuses, accepts, outcome, Unchanged, refused-unchanged}
 use Rattle.words.specs.Laws.{same-is}
 use Rattle.words.specs.Words.{same}
-use Rattle.boxwords.specs.Box.{entryWord, entryOf, discoveryOf, lightOf, frontWords, frontOf, frontIn, boxWords, boxOf, isClear, hasWords, isBox, nobody, boxIn}
+use Rattle.boxwords.specs.Box.{entryOf, discoveryOf, lightOf, frontWords, frontOf, boxWords, boxOf, isClear, hasWords, isBox, nobody, boxIn}
 use Rattle.boxwords.specs.Laws.{clear-is, words-again}
+use Rattle.boxwords.specs.Told.{listed, toldWords}
 use Rattle.boxwords.specs.declared.LightWords.{LightWords}
 use Rattle.boxcall.specs.Calls.{Left, wordsAt, boxAt, isLent, heardOf, toldOf, handed, settled, boxCall, nextCall}
 use Rattle.boxcall.specs.Laws.{whole}
-use Rattle.facelaws.specs.Box.{EntriesFit, LightFits, Fits, Words, Stand, Judging, register, deregister, hear, tick, BoxJudged, BoxReads, BoxRepacked, NobodySends}
+use Rattle.facelaws.specs.Box.{EntriesFit, LightFits, Fits, Words, Stand, Judging, register, deregister, hear, tick, BoxJudged, bare, BoxRefused, BoxReads, BoxRepacked, NobodySends}
 use Rattle.facelaws.proofs.RoundTrip.{drop-map, map-all, unpacked}
 
 -- WORDS THAT ARE A BOX'S are the words of what they tell, and that fits
@@ -132,14 +134,16 @@ by-outcome c b x (unsound s e) = (λ t. absurd (false≢true (sym s ∙ t)), λ 
 by-outcome c b x (refuses s r n m e) = (λ t. rw e m, λ t. absurd (false≢true (sym t ∙ s)))
 by-outcome c b x (accepts s p e) = (λ t. rw e (omega arith), λ t. absurd (false≢true (sym t ∙ s)))
 
-judged : (f : FloorBox → Answer) → Judging f → (b : FloorBox) → Is13 b (f b)
+-- each is a call of the core
+called : (f : FloorBox → Answer) → Judging f → (b : FloorBox) → (c : Call) × (f b ≡ answer c b)
 unfolding heardOf
-judged f register b = by-outcome core.register b _ (outcome core.register b)
-judged f deregister b = by-outcome core.deregister b _ (outcome core.deregister b)
-judged f (hear octets random r) b =
-    let m = readOf octets .message in
-    rw (eq-eqb (numberOf (readOf octets .reply)) 0 r) (by-outcome (core.hear m random) b _ (outcome (core.hear m random) b))
-judged f tick b = by-outcome core.tick b _ (outcome core.tick b)
+called f register b = (core.register, refl)
+called f deregister b = (core.deregister, refl)
+called f (hear octets random r) b = (core.hear (readOf octets .message) random, rw (eq-eqb (numberOf (readOf octets .reply)) 0 r))
+called f tick b = (core.tick, refl)
+
+judged : (f : FloorBox → Answer) → Judging f → (b : FloorBox) → Is13 b (f b)
+judged f j b = let k = called f j b in rw (k .1) (by-outcome (k .0) b (answer (k .0) b) (outcome (k .0) b))
 
 unsound-nobody : soundOf nobody ≡ false
 unfolding soundOf
@@ -174,11 +178,44 @@ box-judged f j block frames reply a b c =
     let e = lent (length block) (length frames) (length reply) a b c in
     (sound-taken f j block frames reply a e, taken-stands f j block frames reply a e)
 
+-- a refusal
+refused-left : (x : Answer) (b : FloorBox) (block frames reply : List ℕ) → numberOf (x .reply) ≢ 0 → Unchanged b x
+    → settled x block frames reply ≡ bare (numberOf (x .reply)) block frames reply
+unfolding settled toldOf toldWords listed
+refused-left x b block frames reply n u = rw (ne-eqb (numberOf (x .reply)) 0 n, u .drift, u .frames, u .notices)
+
+lent-left : (f : FloorBox → Answer) (block frames reply : List ℕ) → isLent (length block) (length frames) (length reply) ≡ true
+    → boxCall f block frames reply ≡ settled (f (boxAt block)) block frames reply
+unfolding boxCall
+lent-left f block frames reply e = rw e
+
+pub box-refused : BoxRefused
+unfolding BoxRefused
+box-refused f j block frames reply a b c n =
+    let e = lent (length block) (length frames) (length reply) a b c in
+    let is = number-is f block frames reply e in
+    let k = called f j (boxAt block) in
+    let x = f (boxAt block) in
+    let bad : numberOf (x .reply) ≢ 0 = λ (z : numberOf (x .reply) ≡ 0). n (is ∙ z) in
+    let u : Unchanged (boxAt block) x =
+    subst (Unchanged (boxAt block)) (sym (k .1)) (refused-unchanged (k .0) (boxAt block) (λ (d : answer (k .0) (boxAt block) .reply ≡ Done). bad (ap (λ (y : Answer). numberOf (y .reply)) (k .1) ∙ ap numberOf d))) in
+    lent-left f block frames reply e
+    ∙ refused-left x (boxAt block) block frames reply bad u
+    ∙ ap (λ (m : ℕ). bare m block frames reply) (sym is)
+
+unread : (octets : List ℕ) (random : ℕ) (b : FloorBox) → numberOf (readOf octets .reply) ≢ 0
+    → heardOf octets random b ≡ answers.refused b (readOf octets .reply)
+unfolding heardOf
+unread octets random b r = rw (ne-eqb (numberOf (readOf octets .reply)) 0 r)
+
 pub box-reads : BoxReads
-unfolding BoxReads heardOf
+unfolding BoxReads
 box-reads octets random block frames reply a b c r =
-    number-is (heardOf octets random) block frames reply (lent (length block) (length frames) (length reply) a b c)
-    ∙ rw (ne-eqb (numberOf (readOf octets .reply)) 0 r)
+    let is = unread octets random (boxAt block) r in
+    lent-left (heardOf octets random) block frames reply (lent (length block) (length frames) (length reply) a b c)
+    ∙ rw is
+    (refused-left (answers.refused (boxAt block) (readOf octets .reply)) (boxAt block) block frames reply r
+    (record { drift = refl; next = refl; frames = refl; notices = refl }))
 
 -- NOBODY sends nothing: the window has no ticks
 none-fit : (n : ℕ) → fitsIn 0 n ≡ false

@@ -11,7 +11,6 @@ use lib.ListN.{length, take, drop, replicate}
 use Rattle.clock.specs.declared.Quanta.{Quanta}
 use Rattle.clock.specs.declared.Timer.{Timer}
 use Rattle.frame.specs.Card.{numberOf}
-use Rattle.frame.specs.declared.Address.{Address}
 use Rattle.range.specs.Fits.{isIndividual}
 use Rattle.reader.specs.Decode.{readOf}
 use Rattle.grants.specs.Listed.{none}
@@ -23,7 +22,7 @@ use Rattle.floorbox.specs.declared.Answer.{Answer}
 use Rattle.floorbox.specs.declared.FloorBox.{FloorBox}
 use Rattle.words.specs.Words.{laid}
 use Rattle.boxwords.specs.Box.{boxWords}
-use Rattle.boxcall.specs.Calls.{left, boxAt, isLent, heardOf, freshCall, boxCall, nextCall}
+use Rattle.boxcall.specs.Calls.{Left, left, boxAt, isLent, heardOf, freshCall, boxCall, nextCall}
 
 abbrev pub TimerFits : Timer → Type 0
 TimerFits t = t .left < 2 ^ 32
@@ -87,12 +86,23 @@ BoxJudged =
     → (Stand block → boxCall f block frames reply .number ≢ 13)
     × (boxCall f block frames reply .number ≢ 13 → Stand block)
 
--- a frame that the reader refuses is answered by the reader's number, whatever the words
+-- a number, and that there is no drift, no frame and no notice
+abbrev pub bare : ℕ → List ℕ → List ℕ → List ℕ → Left
+bare n block frames reply = left n block frames (laid (0 ∷ 0 ∷ 0 ∷ []) reply)
+
+-- is all that a refusal tells; it leaves block and frames
+unfoldable pub BoxRefused : Type 0
+BoxRefused =
+    (f : FloorBox → Answer) → Judging f → (block frames reply : List ℕ) → 29 ≤ length block → 120 ≤ length frames → 19 ≤ length reply
+    → boxCall f block frames reply .number ≢ 0
+    → boxCall f block frames reply ≡ bare (boxCall f block frames reply .number) block frames reply
+
+-- a frame that the reader refuses is refused by the reader's number, whatever the words
 unfoldable pub BoxReads : Type 0
 BoxReads =
     (octets : List ℕ) (random : ℕ) (block frames reply : List ℕ) → 29 ≤ length block → 120 ≤ length frames → 19 ≤ length reply
     → numberOf (readOf octets .reply) ≢ 0
-    → boxCall (heardOf octets random) block frames reply .number ≡ numberOf (readOf octets .reply)
+    → boxCall (heardOf octets random) block frames reply ≡ bare (numberOf (readOf octets .reply)) block frames reply
 
 -- a box that has the words is the one that a call unpacks, and packing that gives the very words
 unfoldable pub BoxRepacked : Type 0
@@ -108,9 +118,9 @@ NobodySends =
 pub record Fresh (address : ℕ) (block frames reply : List ℕ) : Type 0 where
   pub short : isLent (length block) (length frames) (length reply) ≡ false → freshCall address block frames reply ≡ left 100 block frames reply
   pub range : isLent (length block) (length frames) (length reply) ≡ true → isIndividual (record { 0 = address }) ≡ false
-      → freshCall address block frames reply ≡ left 4 (laid (replicate 29 0) block) frames (laid (0 ∷ 0 ∷ 0 ∷ []) reply)
+      → freshCall address block frames reply ≡ bare 4 (laid (replicate 29 0) block) frames reply
   pub done : isLent (length block) (length frames) (length reply) ≡ true → isIndividual (record { 0 = address }) ≡ true
-      → freshCall address block frames reply ≡ left 0 (laid (address ∷ replicate 28 0) block) frames (laid (0 ∷ 0 ∷ 0 ∷ []) reply)
+      → freshCall address block frames reply ≡ bare 0 (laid (address ∷ replicate 28 0) block) frames reply
 
 unfoldable pub BoxFresh : Type 0
 BoxFresh = (address : ℕ) (block frames reply : List ℕ) → Fresh address block frames reply

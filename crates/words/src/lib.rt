@@ -1,7 +1,6 @@
 // Words of 64 bits, as the C face keeps states and answers in the caller's memory.
 ghost use mathlib.Core.Path.{_≡_};
 ghost use Prim.Native.Nat.{min};
-ghost use lib.ListN.{length};
 ghost use Rattle.words.specs.Words.{laid, same, narrowed, driftWord};
 
 // How many words both have.
