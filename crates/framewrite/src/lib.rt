@@ -8,7 +8,6 @@ ghost use lib.ListN.{length, take, drop, replicate};
 ghost use Rattle.octets.specs.Octets.{bytes};
 ghost use Rattle.frame.specs.Layout.{frameOf};
 ghost use Rattle.writer.specs.Write.{over};
-ghost use Rattle.framewords.specs.Tells.{at};
 ghost use Rattle.framewrite.specs.Write.{writeLeft, writingOf, written, writeCall};
 ghost use Rattle.framewrite.specs.Steps.{headerIn, grantIn, forceIn, gateIn, grantOver, gateLaid, discoveryLaid, reportLaid, registerReqLaid, registerLaid, registerAckLaid};
 use frame::Body;
@@ -107,18 +106,23 @@ fn gate_in(n: u64, force: u64, a: u64, b: u64, c: u64, d: u64) -> bool
         & grant_in(d, 3 < n)
 }
 
-fn write_gate(w: &[u64], o: &mut [u8]) -> u8
-    requires { ⌜ (10 ≤ length (now w)) × (60 ≤ length (now o)) ⌝ }
-    ensures { λ r. ⌜ writeLeft r (now (o .exit)) ≡ gateLaid (at (now (w .entry)) 0) (at (now (w .entry)) 1) (at (now (w .entry)) 2) (at (now (w .entry)) 4) (at (now (w .entry)) 5) (at (now (w .entry)) 6) (at (now (w .entry)) 7) (at (now (w .entry)) 8) (at (now (w .entry)) 9) (now (o .entry)) ⌝ }
+fn write_gate(
+    o: &mut [u8],
+    destination: u64,
+    source: u64,
+    timestamp: u64,
+    n: u64,
+    force: u64,
+    a: u64,
+    b: u64,
+    c: u64,
+    d: u64,
+) -> u8
+    requires { ⌜ 60 ≤ length (now o) ⌝ }
+    ensures { λ r. ⌜ writeLeft r (now (o .exit)) ≡ gateLaid destination source timestamp n force a b c d (now (o .entry)) ⌝ }
 {
-    let n = w[4];
-    let force = w[5];
-    let a = w[6];
-    let b = w[7];
-    let c = w[8];
-    let d = w[9];
-    if header_in(w[0], w[1], w[2]) & gate_in(n, force, a, b, c, d) {
-        begin(o, w[0], w[1], Body::GATE, w[2]);
+    if header_in(destination, source, timestamp) & gate_in(n, force, a, b, c, d) {
+        begin(o, destination, source, Body::GATE, timestamp);
         lay(o, 20, 1, n % 8 + 16 * (force % 16));
         lay_grants(o, a, b, c, d);
         return 0;
@@ -133,22 +137,30 @@ fn first_octet(force: u64) -> u64
     if force == 1 { 25 } else { 9 }
 }
 
-fn write_discovery(w: &[u64], o: &mut [u8]) -> u8
-    requires { ⌜ (10 ≤ length (now w)) × (60 ≤ length (now o)) ⌝ }
-    ensures { λ r. ⌜ writeLeft r (now (o .exit)) ≡ discoveryLaid (at (now (w .entry)) 0) (at (now (w .entry)) 1) (at (now (w .entry)) 2) (at (now (w .entry)) 4) (at (now (w .entry)) 5) (at (now (w .entry)) 6) (at (now (w .entry)) 7) (at (now (w .entry)) 8) (at (now (w .entry)) 9) (now (o .entry)) ⌝ }
+fn write_discovery(
+    o: &mut [u8],
+    destination: u64,
+    source: u64,
+    timestamp: u64,
+    sync: u64,
+    force: u64,
+    grant: u64,
+    a: u64,
+    b: u64,
+    c: u64,
+) -> u8
+    requires { ⌜ 60 ≤ length (now o) ⌝ }
+    ensures { λ r. ⌜ writeLeft r (now (o .exit)) ≡ discoveryLaid destination source timestamp sync force grant a b c (now (o .entry)) ⌝ }
 {
-    let sync = w[4];
-    let force = w[5];
-    let grant = w[6];
-    if header_in(w[0], w[1], w[2])
+    if header_in(destination, source, timestamp)
         & (sync <= 0xFFFF)
         & (force <= 1)
         & (grant % 0x100000000 <= 0xFFFF)
-        & (w[7] == 0)
-        & (w[8] == 0)
-        & (w[9] == 0)
+        & (a == 0)
+        & (b == 0)
+        & (c == 0)
     {
-        begin(o, w[0], w[1], Body::GATE, w[2]);
+        begin(o, destination, source, Body::GATE, timestamp);
         lay(o, 20, 1, first_octet(force));
         lay_grant(o, 21, grant);
         lay(o, 27, 2, sync);
@@ -157,39 +169,59 @@ fn write_discovery(w: &[u64], o: &mut [u8]) -> u8
     refuse(o)
 }
 
-fn write_report(w: &[u64], o: &mut [u8]) -> u8
-    requires { ⌜ (10 ≤ length (now w)) × (60 ≤ length (now o)) ⌝ }
-    ensures { λ r. ⌜ writeLeft r (now (o .exit)) ≡ reportLaid (at (now (w .entry)) 0) (at (now (w .entry)) 1) (at (now (w .entry)) 2) (at (now (w .entry)) 4) (at (now (w .entry)) 5) (at (now (w .entry)) 6) (at (now (w .entry)) 7) (at (now (w .entry)) 8) (at (now (w .entry)) 9) (now (o .entry)) ⌝ }
+fn write_report(
+    o: &mut [u8],
+    destination: u64,
+    source: u64,
+    timestamp: u64,
+    a: u64,
+    b: u64,
+    c: u64,
+    d: u64,
+    e: u64,
+    f: u64,
+) -> u8
+    requires { ⌜ 60 ≤ length (now o) ⌝ }
+    ensures { λ r. ⌜ writeLeft r (now (o .exit)) ≡ reportLaid destination source timestamp a b c d e f (now (o .entry)) ⌝ }
 {
-    if header_in(w[0], w[1], w[2])
-        & (w[4] == 0)
-        & (w[5] == 0)
-        & (w[6] == 0)
-        & (w[7] == 0)
-        & (w[8] == 0)
-        & (w[9] == 0)
+    if header_in(destination, source, timestamp)
+        & (a == 0)
+        & (b == 0)
+        & (c == 0)
+        & (d == 0)
+        & (e == 0)
+        & (f == 0)
     {
-        begin(o, w[0], w[1], Body::REPORT, w[2]);
+        begin(o, destination, source, Body::REPORT, timestamp);
         return 0;
     }
     refuse(o)
 }
 
-fn write_register_req(w: &[u64], o: &mut [u8]) -> u8
-    requires { ⌜ (10 ≤ length (now w)) × (60 ≤ length (now o)) ⌝ }
-    ensures { λ r. ⌜ writeLeft r (now (o .exit)) ≡ registerReqLaid (at (now (w .entry)) 0) (at (now (w .entry)) 1) (at (now (w .entry)) 2) (at (now (w .entry)) 4) (at (now (w .entry)) 5) (at (now (w .entry)) 6) (at (now (w .entry)) 7) (at (now (w .entry)) 8) (at (now (w .entry)) 9) (now (o .entry)) ⌝ }
+fn write_register_req(
+    o: &mut [u8],
+    destination: u64,
+    source: u64,
+    timestamp: u64,
+    flag: u64,
+    pending: u64,
+    a: u64,
+    b: u64,
+    c: u64,
+    d: u64,
+) -> u8
+    requires { ⌜ 60 ≤ length (now o) ⌝ }
+    ensures { λ r. ⌜ writeLeft r (now (o .exit)) ≡ registerReqLaid destination source timestamp flag pending a b c d (now (o .entry)) ⌝ }
 {
-    let flag = w[4];
-    let pending = w[5];
-    if header_in(w[0], w[1], w[2])
+    if header_in(destination, source, timestamp)
         & ((flag == 1) | (flag == 3))
         & (pending <= 0xFF)
-        & (w[6] == 0)
-        & (w[7] == 0)
-        & (w[8] == 0)
-        & (w[9] == 0)
+        & (a == 0)
+        & (b == 0)
+        & (c == 0)
+        & (d == 0)
     {
-        begin(o, w[0], w[1], Body::REGISTER_REQ, w[2]);
+        begin(o, destination, source, Body::REGISTER_REQ, timestamp);
         lay(o, 20, 1, flag);
         lay(o, 21, 1, pending);
         return 0;
@@ -197,23 +229,30 @@ fn write_register_req(w: &[u64], o: &mut [u8]) -> u8
     refuse(o)
 }
 
-fn write_register(w: &[u64], o: &mut [u8]) -> u8
-    requires { ⌜ (10 ≤ length (now w)) × (60 ≤ length (now o)) ⌝ }
-    ensures { λ r. ⌜ writeLeft r (now (o .exit)) ≡ registerLaid (at (now (w .entry)) 0) (at (now (w .entry)) 1) (at (now (w .entry)) 2) (at (now (w .entry)) 4) (at (now (w .entry)) 5) (at (now (w .entry)) 6) (at (now (w .entry)) 7) (at (now (w .entry)) 8) (at (now (w .entry)) 9) (now (o .entry)) ⌝ }
+fn write_register(
+    o: &mut [u8],
+    destination: u64,
+    source: u64,
+    timestamp: u64,
+    flag: u64,
+    port: u64,
+    sync: u64,
+    pending: u64,
+    a: u64,
+    b: u64,
+) -> u8
+    requires { ⌜ 60 ≤ length (now o) ⌝ }
+    ensures { λ r. ⌜ writeLeft r (now (o .exit)) ≡ registerLaid destination source timestamp flag port sync pending a b (now (o .entry)) ⌝ }
 {
-    let flag = w[4];
-    let port = w[5];
-    let sync = w[6];
-    let pending = w[7];
-    if header_in(w[0], w[1], w[2])
+    if header_in(destination, source, timestamp)
         & ((flag == 1) | (flag == 2) | (flag == 3) | (flag == 4))
         & (port <= 0xFFFF)
         & (sync <= 0xFFFF)
         & (pending <= 0xFF)
-        & (w[8] == 0)
-        & (w[9] == 0)
+        & (a == 0)
+        & (b == 0)
     {
-        begin(o, w[0], w[1], Body::REGISTER, w[2]);
+        begin(o, destination, source, Body::REGISTER, timestamp);
         lay(o, 20, 2, port);
         lay(o, 22, 1, flag);
         lay(o, 23, 2, sync);
@@ -223,22 +262,30 @@ fn write_register(w: &[u64], o: &mut [u8]) -> u8
     refuse(o)
 }
 
-fn write_register_ack(w: &[u64], o: &mut [u8]) -> u8
-    requires { ⌜ (10 ≤ length (now w)) × (60 ≤ length (now o)) ⌝ }
-    ensures { λ r. ⌜ writeLeft r (now (o .exit)) ≡ registerAckLaid (at (now (w .entry)) 0) (at (now (w .entry)) 1) (at (now (w .entry)) 2) (at (now (w .entry)) 4) (at (now (w .entry)) 5) (at (now (w .entry)) 6) (at (now (w .entry)) 7) (at (now (w .entry)) 8) (at (now (w .entry)) 9) (now (o .entry)) ⌝ }
+fn write_register_ack(
+    o: &mut [u8],
+    destination: u64,
+    source: u64,
+    timestamp: u64,
+    flag: u64,
+    port: u64,
+    sync: u64,
+    a: u64,
+    b: u64,
+    c: u64,
+) -> u8
+    requires { ⌜ 60 ≤ length (now o) ⌝ }
+    ensures { λ r. ⌜ writeLeft r (now (o .exit)) ≡ registerAckLaid destination source timestamp flag port sync a b c (now (o .entry)) ⌝ }
 {
-    let flag = w[4];
-    let port = w[5];
-    let sync = w[6];
-    if header_in(w[0], w[1], w[2])
+    if header_in(destination, source, timestamp)
         & ((flag == 0) | (flag == 1))
         & (port <= 0xFFFF)
         & (sync <= 0xFFFF)
-        & (w[7] == 0)
-        & (w[8] == 0)
-        & (w[9] == 0)
+        & (a == 0)
+        & (b == 0)
+        & (c == 0)
     {
-        begin(o, w[0], w[1], Body::REGISTER_ACK, w[2]);
+        begin(o, destination, source, Body::REGISTER_ACK, timestamp);
         lay(o, 20, 1, flag);
         lay(o, 21, 2, port);
         lay(o, 23, 2, sync);
@@ -252,24 +299,33 @@ fn write_words(w: &[u64], o: &mut [u8]) -> u8
     requires { ⌜ (10 ≤ length (now w)) × (60 ≤ length (now o)) ⌝ }
     ensures { λ r. ⌜ writeLeft r (now (o .exit)) ≡ written (writingOf (take 10 (now (w .entry)))) (now (o .entry)) ⌝ }
 {
+    let to = w[0];
+    let from = w[1];
+    let stamp = w[2];
     let kind = w[3];
+    let a = w[4];
+    let b = w[5];
+    let c = w[6];
+    let d = w[7];
+    let e = w[8];
+    let f = w[9];
     if kind == 0 {
-        return write_gate(w, o);
+        return write_gate(o, to, from, stamp, a, b, c, d, e, f);
     }
     if kind == 1 {
-        return write_discovery(w, o);
+        return write_discovery(o, to, from, stamp, a, b, c, d, e, f);
     }
     if kind == 2 {
-        return write_report(w, o);
+        return write_report(o, to, from, stamp, a, b, c, d, e, f);
     }
     if kind == 3 {
-        return write_register_req(w, o);
+        return write_register_req(o, to, from, stamp, a, b, c, d, e, f);
     }
     if kind == 4 {
-        return write_register(w, o);
+        return write_register(o, to, from, stamp, a, b, c, d, e, f);
     }
     if kind == 5 {
-        return write_register_ack(w, o);
+        return write_register_ack(o, to, from, stamp, a, b, c, d, e, f);
     }
     refuse(o)
 }

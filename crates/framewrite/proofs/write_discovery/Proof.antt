@@ -6,44 +6,8 @@ use Rattle.framewrite.specs.Steps.{discoveryLaid}
 use Rattle.framewrite.proofs.write_discovery.Statement.{statement}
 use Rattle.framewrite.proofs.write_discovery.Tie as tie
 
-shared-slice-read-sync : tie.Need-shared-slice-read-sync
-shared-slice-read-sync c = search needs
-
-shared-slice-read-force : tie.Need-shared-slice-read-force
-shared-slice-read-force c = search needs
-
-shared-slice-read-grant : tie.Need-shared-slice-read-grant
-shared-slice-read-grant c = search needs
-
-shared-slice-read-header-in : tie.Need-shared-slice-read-header-in
-shared-slice-read-header-in c = search needs
-
-shared-slice-read-header-in-2 : tie.Need-shared-slice-read-header-in-2
-shared-slice-read-header-in-2 c = search needs
-
-shared-slice-read-header-in-3 : tie.Need-shared-slice-read-header-in-3
-shared-slice-read-header-in-3 c = search needs
-
 header-in-requires : tie.Need-header-in-requires
 header-in-requires c κs = search needs
-
-shared-slice-read-if1 : tie.Need-shared-slice-read-if1
-shared-slice-read-if1 c = search needs
-
-shared-slice-read-if1-2 : tie.Need-shared-slice-read-if1-2
-shared-slice-read-if1-2 c = search needs
-
-shared-slice-read-if1-3 : tie.Need-shared-slice-read-if1-3
-shared-slice-read-if1-3 c = search needs
-
-shared-slice-read-begin : tie.Need-shared-slice-read-begin
-shared-slice-read-begin c = search needs
-
-shared-slice-read-begin-2 : tie.Need-shared-slice-read-begin-2
-shared-slice-read-begin-2 c = search needs
-
-shared-slice-read-begin-3 : tie.Need-shared-slice-read-begin-3
-shared-slice-read-begin-3 c = search needs
 
 begin-requires : tie.Need-begin-requires
 begin-requires c κs = search needs
@@ -66,14 +30,14 @@ same-length c = search needs
 returns : tie.Need-returns
 unfolding onto discoveryLaid
 returns c =
-    let i = c .before .before .before .before .before .before .before .before .before .before .before .before .before .before .before .before .before .before .before .before in
+    let i = c .before .before .before .before .before .before .before .before .before .before .before .before .before .before .before .before .before in
     rw (
       c .before .before .lay2 .ensures,
       c .before .before .before .before .before .before .lay-grant .ensures,
       c .before .before .before .before .before .before .before .before .before .before .lay .ensures,
       c .before .before .before .before .before .before .before .before .before .before .before .first-octet .ensures,
       c .before .before .before .before .before .before .before .before .before .before .before .before .before .before .before .begin .ensures,
-      ← i .before .before .before .before .header-in .ensures,
+      ← i .before .header-in .ensures,
       i .if1 .taken,
     )
 
@@ -89,7 +53,7 @@ returns-2 c =
     let i = c .before .before .before .before in
     rw (
       c .before .before .refuse .ensures,
-      ← i .before .before .before .before .header-in .ensures,
+      ← i .before .header-in .ensures,
       i .if1 .left,
     )
 
@@ -97,19 +61,7 @@ pub write-discovery-spec : {M : Type 1} → statement M
 write-discovery-spec =
     tie.close
     (tie.spec
-    shared-slice-read-sync
-    shared-slice-read-force
-    shared-slice-read-grant
-    shared-slice-read-header-in
-    shared-slice-read-header-in-2
-    shared-slice-read-header-in-3
     header-in-requires
-    shared-slice-read-if1
-    shared-slice-read-if1-2
-    shared-slice-read-if1-3
-    shared-slice-read-begin
-    shared-slice-read-begin-2
-    shared-slice-read-begin-3
     begin-requires
     first-octet-requires
     lay-requires

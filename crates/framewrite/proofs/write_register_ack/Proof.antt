@@ -6,44 +6,8 @@ use Rattle.framewrite.specs.Steps.{registerAckLaid}
 use Rattle.framewrite.proofs.write_register_ack.Statement.{statement}
 use Rattle.framewrite.proofs.write_register_ack.Tie as tie
 
-shared-slice-read-flag : tie.Need-shared-slice-read-flag
-shared-slice-read-flag c = search needs
-
-shared-slice-read-port : tie.Need-shared-slice-read-port
-shared-slice-read-port c = search needs
-
-shared-slice-read-sync : tie.Need-shared-slice-read-sync
-shared-slice-read-sync c = search needs
-
-shared-slice-read-header-in : tie.Need-shared-slice-read-header-in
-shared-slice-read-header-in c = search needs
-
-shared-slice-read-header-in-2 : tie.Need-shared-slice-read-header-in-2
-shared-slice-read-header-in-2 c = search needs
-
-shared-slice-read-header-in-3 : tie.Need-shared-slice-read-header-in-3
-shared-slice-read-header-in-3 c = search needs
-
 header-in-requires : tie.Need-header-in-requires
 header-in-requires c κs = search needs
-
-shared-slice-read-if1 : tie.Need-shared-slice-read-if1
-shared-slice-read-if1 c = search needs
-
-shared-slice-read-if1-2 : tie.Need-shared-slice-read-if1-2
-shared-slice-read-if1-2 c = search needs
-
-shared-slice-read-if1-3 : tie.Need-shared-slice-read-if1-3
-shared-slice-read-if1-3 c = search needs
-
-shared-slice-read-begin : tie.Need-shared-slice-read-begin
-shared-slice-read-begin c = search needs
-
-shared-slice-read-begin-2 : tie.Need-shared-slice-read-begin-2
-shared-slice-read-begin-2 c = search needs
-
-shared-slice-read-begin-3 : tie.Need-shared-slice-read-begin-3
-shared-slice-read-begin-3 c = search needs
 
 begin-requires : tie.Need-begin-requires
 begin-requires c κs = search needs
@@ -63,13 +27,13 @@ same-length c = search needs
 returns : tie.Need-returns
 unfolding onto registerAckLaid
 returns c =
-    let i = c .before .before .before .before .before .before .before .before .before .before .before .before .before .before .before .before .before .before .before in
+    let i = c .before .before .before .before .before .before .before .before .before .before .before .before .before .before .before .before in
     rw (
       c .before .before .lay3 .ensures,
       c .before .before .before .before .before .before .lay2 .ensures,
       c .before .before .before .before .before .before .before .before .before .before .lay .ensures,
       c .before .before .before .before .before .before .before .before .before .before .before .before .before .before .begin .ensures,
-      ← i .before .before .before .before .header-in .ensures,
+      ← i .before .header-in .ensures,
       i .if1 .taken,
     )
 
@@ -85,7 +49,7 @@ returns-2 c =
     let i = c .before .before .before .before in
     rw (
       c .before .before .refuse .ensures,
-      ← i .before .before .before .before .header-in .ensures,
+      ← i .before .header-in .ensures,
       i .if1 .left,
     )
 
@@ -93,19 +57,7 @@ pub write-register-ack-spec : {M : Type 1} → statement M
 write-register-ack-spec =
     tie.close
     (tie.spec
-    shared-slice-read-flag
-    shared-slice-read-port
-    shared-slice-read-sync
-    shared-slice-read-header-in
-    shared-slice-read-header-in-2
-    shared-slice-read-header-in-3
     header-in-requires
-    shared-slice-read-if1
-    shared-slice-read-if1-2
-    shared-slice-read-if1-3
-    shared-slice-read-begin
-    shared-slice-read-begin-2
-    shared-slice-read-begin-3
     begin-requires
     lay-requires
     lay-requires-2

@@ -9,8 +9,35 @@ use Rattle.framewrite.proofs.Page.{discovery-page, report-page, registe
 use Rattle.framewrite.proofs.write_words.Statement.{statement}
 use Rattle.framewrite.proofs.write_words.Tie as tie
 
+shared-slice-read-to : tie.Need-shared-slice-read-to
+shared-slice-read-to c = search needs
+
+shared-slice-read-from : tie.Need-shared-slice-read-from
+shared-slice-read-from c = search needs
+
+shared-slice-read-stamp : tie.Need-shared-slice-read-stamp
+shared-slice-read-stamp c = search needs
+
 shared-slice-read-kind : tie.Need-shared-slice-read-kind
 shared-slice-read-kind c = search needs
+
+shared-slice-read-a : tie.Need-shared-slice-read-a
+shared-slice-read-a c = search needs
+
+shared-slice-read-b : tie.Need-shared-slice-read-b
+shared-slice-read-b c = search needs
+
+shared-slice-read-c : tie.Need-shared-slice-read-c
+shared-slice-read-c c = search needs
+
+shared-slice-read-d : tie.Need-shared-slice-read-d
+shared-slice-read-d c = search needs
+
+shared-slice-read-e : tie.Need-shared-slice-read-e
+shared-slice-read-e c = search needs
+
+shared-slice-read-f : tie.Need-shared-slice-read-f
+shared-slice-read-f c = search needs
 
 write-gate-requires : tie.Need-write-gate-requires
 write-gate-requires c κs = search needs
@@ -21,10 +48,10 @@ same-length c = search needs
 returns : tie.Need-returns
 returns c =
     let i = c .before .before .before .before in
-    let a = i .before .before .before .before .args in
-    let w = now (a .w) in
-    rw (c .before .before .write-gate .ensures, first-ten w (i .before .before .before .before .pre .0), i .if1 .taken)
-    (gate-page (at w 5) (at w 6) (at w 7) (at w 8) (at w 9) (at w 0) (at w 1) (at w 2) (at w 4) (now (a .o)))
+    let s = i .before .before .before .before .before .before .before .before .before .before .before .before .before in
+    let w = now (s .args .w) in
+    rw (c .before .before .write-gate .ensures, first-ten w (s .pre .0), i .if1 .taken)
+    (gate-page (at w 5) (at w 6) (at w 7) (at w 8) (at w 9) (at w 0) (at w 1) (at w 2) (at w 4) (now (s .args .o)))
 
 write-discovery-requires : tie.Need-write-discovery-requires
 write-discovery-requires c κs = search needs
@@ -35,10 +62,10 @@ same-length-2 c = search needs
 returns-2 : tie.Need-returns-2
 returns-2 c =
     let i = c .before .before .before .before in
-    let a = i .before .before .before .before .before .args in
-    let w = now (a .w) in
-    rw (c .before .before .write-discovery .ensures, first-ten w (i .before .before .before .before .before .pre .0), i .if2 .taken)
-    (discovery-page (at w 0) (at w 1) (at w 2) (now (a .o)) (at w 4) (at w 5) (at w 6) (at w 7) (at w 8) (at w 9))
+    let s = i .before .before .before .before .before .before .before .before .before .before .before .before .before .before in
+    let w = now (s .args .w) in
+    rw (c .before .before .write-discovery .ensures, first-ten w (s .pre .0), i .if2 .taken)
+    (discovery-page (at w 0) (at w 1) (at w 2) (now (s .args .o)) (at w 4) (at w 5) (at w 6) (at w 7) (at w 8) (at w 9))
 
 write-report-requires : tie.Need-write-report-requires
 write-report-requires c κs = search needs
@@ -49,10 +76,10 @@ same-length-3 c = search needs
 returns-3 : tie.Need-returns-3
 returns-3 c =
     let i = c .before .before .before .before in
-    let a = i .before .before .before .before .before .before .args in
-    let w = now (a .w) in
-    rw (c .before .before .write-report .ensures, first-ten w (i .before .before .before .before .before .before .pre .0), i .if3 .taken)
-    (report-page (at w 0) (at w 1) (at w 2) (now (a .o)) (at w 4) (at w 5) (at w 6) (at w 7) (at w 8) (at w 9))
+    let s = i .before .before .before .before .before .before .before .before .before .before .before .before .before .before .before in
+    let w = now (s .args .w) in
+    rw (c .before .before .write-report .ensures, first-ten w (s .pre .0), i .if3 .taken)
+    (report-page (at w 0) (at w 1) (at w 2) (now (s .args .o)) (at w 4) (at w 5) (at w 6) (at w 7) (at w 8) (at w 9))
 
 write-register-req-requires : tie.Need-write-register-req-requires
 write-register-req-requires c κs = search needs
@@ -63,10 +90,10 @@ same-length-4 c = search needs
 returns-4 : tie.Need-returns-4
 returns-4 c =
     let i = c .before .before .before .before in
-    let a = i .before .before .before .before .before .before .before .args in
-    let w = now (a .w) in
-    rw (c .before .before .write-register-req .ensures, first-ten w (i .before .before .before .before .before .before .before .pre .0), i .if4 .taken)
-    (register-req-page (at w 0) (at w 1) (at w 2) (now (a .o)) (at w 4) (at w 5) (at w 6) (at w 7) (at w 8) (at w 9))
+    let s = i .before .before .before .before .before .before .before .before .before .before .before .before .before .before .before .before in
+    let w = now (s .args .w) in
+    rw (c .before .before .write-register-req .ensures, first-ten w (s .pre .0), i .if4 .taken)
+    (register-req-page (at w 0) (at w 1) (at w 2) (now (s .args .o)) (at w 4) (at w 5) (at w 6) (at w 7) (at w 8) (at w 9))
 
 write-register-requires : tie.Need-write-register-requires
 write-register-requires c κs = search needs
@@ -77,10 +104,10 @@ same-length-5 c = search needs
 returns-5 : tie.Need-returns-5
 returns-5 c =
     let i = c .before .before .before .before in
-    let a = i .before .before .before .before .before .before .before .before .args in
-    let w = now (a .w) in
-    rw (c .before .before .write-register .ensures, first-ten w (i .before .before .before .before .before .before .before .before .pre .0), i .if5 .taken)
-    (register-page (at w 0) (at w 1) (at w 2) (now (a .o)) (at w 4) (at w 5) (at w 6) (at w 7) (at w 8) (at w 9))
+    let s = i .before .before .before .before .before .before .before .before .before .before .before .before .before .before .before .before .before in
+    let w = now (s .args .w) in
+    rw (c .before .before .write-register .ensures, first-ten w (s .pre .0), i .if5 .taken)
+    (register-page (at w 0) (at w 1) (at w 2) (now (s .args .o)) (at w 4) (at w 5) (at w 6) (at w 7) (at w 8) (at w 9))
 
 write-register-ack-requires : tie.Need-write-register-ack-requires
 write-register-ack-requires c κs = search needs
@@ -91,10 +118,10 @@ same-length-6 c = search needs
 returns-6 : tie.Need-returns-6
 returns-6 c =
     let i = c .before .before .before .before in
-    let a = i .before .before .before .before .before .before .before .before .before .args in
-    let w = now (a .w) in
-    rw (c .before .before .write-register-ack .ensures, first-ten w (i .before .before .before .before .before .before .before .before .before .pre .0), i .if6 .taken)
-    (register-ack-page (at w 0) (at w 1) (at w 2) (now (a .o)) (at w 4) (at w 5) (at w 6) (at w 7) (at w 8) (at w 9))
+    let s = i .before .before .before .before .before .before .before .before .before .before .before .before .before .before .before .before .before .before in
+    let w = now (s .args .w) in
+    rw (c .before .before .write-register-ack .ensures, first-ten w (s .pre .0), i .if6 .taken)
+    (register-ack-page (at w 0) (at w 1) (at w 2) (now (s .args .o)) (at w 4) (at w 5) (at w 6) (at w 7) (at w 8) (at w 9))
 
 refuse-requires : tie.Need-refuse-requires
 refuse-requires c κs = search needs
@@ -105,10 +132,10 @@ same-length-7 c = search needs
 returns-7 : tie.Need-returns-7
 returns-7 c =
     let i = c .before .before .before .before in
-    let a = i .before .before .before .before .before .before .before .before .before .args in
-    let w = now (a .w) in
-    rw (c .before .before .refuse .ensures, first-ten w (i .before .before .before .before .before .before .before .before .before .pre .0))
-    (no-page (at w 0) (at w 1) (at w 2) (now (a .o)) (at w 3) _
+    let s = i .before .before .before .before .before .before .before .before .before .before .before .before .before .before .before .before .before .before in
+    let w = now (s .args .w) in
+    rw (c .before .before .refuse .ensures, first-ten w (s .pre .0))
+    (no-page (at w 0) (at w 1) (at w 2) (now (s .args .o)) (at w 3) _
     (i .before .before .before .before .before .if1 .left)
     (i .before .before .before .before .if2 .left)
     (i .before .before .before .if3 .left)
@@ -120,7 +147,16 @@ pub write-words-spec : {M : Type 1} → statement M
 write-words-spec =
     tie.close
     (tie.spec
+    shared-slice-read-to
+    shared-slice-read-from
+    shared-slice-read-stamp
     shared-slice-read-kind
+    shared-slice-read-a
+    shared-slice-read-b
+    shared-slice-read-c
+    shared-slice-read-d
+    shared-slice-read-e
+    shared-slice-read-f
     write-gate-requires
     same-length
     returns
