@@ -12,10 +12,11 @@ use Rattle.telling.specs.Told.{isNothing}
 use Rattle.telling.specs.declared.Notice.{Notice}
 use Rattle.telling.specs.declared.Notice.the-variants.{Nothing, Window, Registered, Refused, Retry, Deregistered, Granted, Open, Close}
 use Rattle.telling.specs.declared.Notices.{Notices}
-use Rattle.boxwords.specs.Told.{noticeWords, listed, toldWords, numberOf, layout}
+use Rattle.boxwords.specs.Laying.{howMany, layout}
+use Rattle.boxwords.specs.Told.{noticeWords, listed, toldWords}
 
-pub at-most-four : (a b c d : ℕ) → numberOf a b c d ≤ 4
-unfolding numberOf
+pub at-most-four : (a b c d : ℕ) → howMany a b c d ≤ 4
+unfolding howMany
 at-most-four a b c d =
     let P : ℕ → Type 0 = λ n. n ≤ 4 in
     either P (eqb a 0) _ _ (λ _. omega arith)
@@ -36,7 +37,7 @@ kind Close = refl
 
 -- how many words are laid, and which
 abbrev pub numberIn : Notices → ℕ
-numberIn n = numberOf (noticeWords (n .first) .kind) (noticeWords (n .second) .kind) (noticeWords (n .third) .kind) (noticeWords (n .fourth) .kind)
+numberIn n = howMany (noticeWords (n .first) .kind) (noticeWords (n .second) .kind) (noticeWords (n .third) .kind) (noticeWords (n .fourth) .kind)
 
 module _ (drift : ℤ) (frames : ℕ) (n : Notices) where
   abbrev Laid : Type 0
@@ -46,7 +47,7 @@ module _ (drift : ℤ) (frames : ℕ) (n : Notices) where
       ≡ toldWords drift frames n
 
   by-tests : (a b c d : Bool) → isNothing (n .first) ≡ a → isNothing (n .second) ≡ b → isNothing (n .third) ≡ c → isNothing (n .fourth) ≡ d → Laid
-  unfolding numberOf toldWords listed
+  unfolding howMany toldWords listed
   by-tests true b c d p q r s = rw (kind (n .first), p)
   by-tests false true c d p q r s = rw (kind (n .first), p, kind (n .second), q)
   by-tests false false true d p q r s = rw (kind (n .first), p, kind (n .second), q, kind (n .third), r)

@@ -1,3 +1,4 @@
 pub mod Box
 pub mod Laws
+pub mod Laying
 pub mod Told

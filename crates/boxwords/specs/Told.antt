@@ -3,7 +3,6 @@
 use Prim.Native.Nat.{ℕ}
 use mathlib.Core.Bool.{cond}
 use mathlib.Core.List.{List, [], _∷_, _++_}
-use lib.Dec.{eqb}
 use lib.IntN.{ℤ}
 use lib.ListN.{length}
 use Rattle.telling.specs.Told.{isNothing}
@@ -45,10 +44,3 @@ noticesWords (x ∷ l) = four (noticeWords x) ++ noticesWords l
 -- the drift, how many frames, how many notices, and these in order
 unfoldable pub toldWords : ℤ → ℕ → Notices → List ℕ
 toldWords drift frames n = driftWord drift ∷ frames ∷ length (listed n) ∷ noticesWords (listed n)
-
--- how the code comes to it: the number by the kinds, and the words of which so many are laid
-unfoldable pub numberOf : ℕ → ℕ → ℕ → ℕ → ℕ
-numberOf a b c d = cond (eqb a 0) 0 (cond (eqb b 0) 1 (cond (eqb c 0) 2 (cond (eqb d 0) 3 4)))
-
-abbrev pub layout : ℤ → ℕ → ℕ → NoticeWords → NoticeWords → NoticeWords → NoticeWords → List ℕ
-layout drift frames number a b c d = driftWord drift ∷ frames ∷ number ∷ four a ++ four b ++ four c ++ four d

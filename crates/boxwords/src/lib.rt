@@ -4,7 +4,8 @@ ghost use mathlib.Core.Bool.{cond};
 ghost use mathlib.Core.List.{map};
 ghost use lib.ListN.{drop};
 ghost use Rattle.boxwords.specs.Box.{entryWord, entryOf, stateWord, stateOf, registrationOf, phaseWords, lightWords, discoveryOf, lightOf, listOf, frontWords, frontOf, boxed, isClear, hasWords, boxWords, nobody, boxIn};
-ghost use Rattle.boxwords.specs.Told.{kindWords, noticeWords, numberOf, layout, toldWords};
+ghost use Rattle.boxwords.specs.Laying.{howMany, layout};
+ghost use Rattle.boxwords.specs.Told.{kindWords, noticeWords, toldWords};
 ghost use Rattle.words.specs.Words.{laid};
 use clock::Count;
 use clock::Quanta;
@@ -413,7 +414,7 @@ fn notice_words(notice: Notice) -> NoticeWords
 
 // How many stand before the first that is nothing, by their kinds.
 fn number(a: u64, b: u64, c: u64, d: u64) -> usize
-    ensures { λ r. ⌜ r ≡ numberOf a b c d ⌝ }
+    ensures { λ r. ⌜ r ≡ howMany a b c d ⌝ }
 {
     if a == 0 {
         return 0;

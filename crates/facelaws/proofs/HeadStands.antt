@@ -1,12 +1,12 @@
 -- The calls of the head take the words of a sound head and a sound table, and no others.
 -- Assumes nothing.
-use Prim.Native.Nat.{ℕ, zero, suc, _+_, _*_, _/_, _^_, _≤_}
+use Prim.Native.Nat.{ℕ, zero, suc, _+_, _*_, _/_, _≤_}
 use mathlib.Core.Path.{_≡_, refl, sym, ap, _∙_}
 use mathlib.Core.Bool.{Bool, true, false, _&&_, and-eq-true-iff, true≢false}
 use mathlib.Core.List.{List, [], _∷_, _++_}
 use mathlib.Core.Logic.{_≢_, ⊎-elim}
 use native.Mathlib.Omega.{arith}
-use borrow.Author.Tests.{le-leb, leb-true, eq-eqb, ne-eqb}
+use borrow.Author.Tests.{le-leb, eq-eqb, ne-eqb}
 use lib.Dec.{eqb, leb}
 use lib.ListN.{length, take, drop, replicate, length-take, length-drop, take-append-drop}
 use lib.Seq.{take-add}
@@ -16,7 +16,6 @@ use Rattle.frame.specs.Card.{numberOf}
 use Rattle.frame.specs.declared.Reply.the-variants.{Unsound}
 use Rattle.head.specs.Head.{soundOf}
 use Rattle.head.specs.declared.Head.{Head}
-use Rattle.head.specs.declared.Window.{Window}
 use Rattle.links.specs.Sound as link
 use Rattle.links.specs.declared.Link.{Link}
 use Rattle.survey.specs.Facts.{isFew, allSound, soundTable}
@@ -35,8 +34,8 @@ use Rattle.headwords.specs.declared.WindowWords.{WindowWords}
 use Rattle.headwords.specs.Table.{linkWords, linkOf, five, isLink, noLink, linkIn, wordsAt, tableWords, linksOf, linksIn, linksAt}
 use Rattle.headwords.specs.declared.LinkWords.{LinkWords}
 use Rattle.headwords.specs.Laws.{links-few, length-links}
-use Rattle.headcall.specs.Calls.{Left, Told, headAt, isLent, handed, refusedOf, servedOf, heardOf}
-use Rattle.facelaws.specs.Head.{WindowFits, HeadFits, LinkFits, LinksFit, Stand, HeadJudged, HeadReads, Repacked, HeadRepacked}
+use Rattle.headcall.specs.Calls.{Left, headAt, isLent, handed, refusedOf, servedOf, heardOf}
+use Rattle.facelaws.specs.Head.{WindowFits, HeadFits, LinkFits, LinksFit, Stand, HeadJudged, HeadReads, HeadRepacked}
 use Rattle.facelaws.proofs.HeadTrip.{head-back, table-back}
 use Rattle.facelaws.proofs.HeadCalls.{is-handed}
 

@@ -2,23 +2,14 @@
 -- Assumes nothing.
 use mathlib.Core.Path.{sym, _∙_}
 use Rattle.laws.specs.Settles.{Settles}
-use Rattle.fields.proofs.address_of.Kinds as address-of-kinds
-use Rattle.fields.proofs.address_of.Reads as address-of
 use Rattle.fields.proofs.count_of.Kinds as count-of-kinds
 use Rattle.fields.proofs.count_of.Reads as count-of
-use Rattle.fields.proofs.octet_of.Kinds as octet-of-kinds
-use Rattle.fields.proofs.octet_of.Reads as octet-of
 use Rattle.fields.proofs.quanta_of.Kinds as quanta-of-kinds
 use Rattle.fields.proofs.quanta_of.Reads as quanta-of
 use Rattle.fields.proofs.short_of.Kinds as short-of-kinds
 use Rattle.fields.proofs.short_of.Reads as short-of
-use Rattle.fields.proofs.strange.Kinds as strange-kinds
-use Rattle.fields.proofs.strange.Reads as strange
 use Rattle.fields.proofs.timer_of.Kinds as timer-of-kinds
 use Rattle.fields.proofs.timer_of.Reads as timer-of
-
-pub octet-of-settles : Settles 0 octet-of-kinds.ps octet-of-kinds.r octet-of.Post
-octet-of-settles κs a e x y p q = p ∙ sym q
 
 pub short-of-settles : Settles 0 short-of-kinds.ps short-of-kinds.r short-of.Post
 short-of-settles κs a e x y p q = p ∙ sym q
@@ -31,9 +22,3 @@ quanta-of-settles κs a e x y p q = p ∙ sym q
 
 pub timer-of-settles : Settles 0 timer-of-kinds.ps timer-of-kinds.r timer-of.Post
 timer-of-settles κs a e x y p q = p ∙ sym q
-
-pub strange-settles : Settles 0 strange-kinds.ps strange-kinds.r strange.Post
-strange-settles κs a e x y p q = p ∙ sym q
-
-pub address-of-settles : Settles 0 address-of-kinds.ps address-of-kinds.r address-of.Post
-address-of-settles κs a e x y p q = p ∙ sym q
