@@ -239,7 +239,7 @@ module _ {M : Type 1} (𝓤 : URA M) (H : Heap 𝓤) (A : Atoms 𝓤) (W : Given
       nothing ! $ move ! (2 ∷ 0 ∷ []) $ join ! $ move ! (2 ∷ 0 ∷ []) $ join ! $ move ! (2 ∷ 0 ∷ []) $ join ! $ join ! $ frame ! $ done !
 
   abbrev pub Left-lend : Val → Item 𝓤
-  Left-lend w = later (some (λ (r : Answer). some (λ (us′ : List ℕ). some (λ (ys′ : List Link). some (λ (os′ : List ℕ). given (LendMet h us ys req os w r us′ ys′ os′) ((‵ (flft κ q) ⊛ ‵ (finally u64 δ us′)) ⊛ (‵ (flft κ′ q′) ⊛ ‵ (finally Link-row δ′ ys′)) ⊛ (‵ (flft κ″ q″) ⊛ ‵ (finally u8 δ″ os′))))))))
+  Left-lend w = later (some (λ (r : Answer). some (λ (t : List ℕ × List Link × List ℕ). given (LendMet h us ys req os w r (t .0) (t .1) (t .2)) ((‵ (flft κ q) ⊛ ‵ (finally u64 δ (t .0))) ⊛ (‵ (flft κ′ q′) ⊛ ‵ (finally Link-row δ′ (t .1))) ⊛ (‵ (flft κ″ q″) ⊛ ‵ (finally u8 δ″ (t .2)))))))
 
   pub left-lend : (w : Val) → ent 𝓤 (Lend 𝓤 H A mem run .post to-lend w) (mean 𝓤 H A (Left-lend w))
   left-lend w =
@@ -252,10 +252,8 @@ module _ {M : Type 1} (𝓤 : URA M) (H : Heap 𝓤) (A : Atoms 𝓤) (W : Given
       move ! (4 ∷ []) $ split ! $ move ! (1 ∷ []) $ peeks ! Answer-row (Is Answer-row) (shows 𝓤 H A Answer-row) r (w ∷ []) (λ is. drop ! $ split ! $ move ! (1 ∷ []) $ split ! $ move ! (1 ∷ []) $ split ! $
       -- [κ″; true; κ′; κ; finally″; rest; finally′; finally]
       keep ! (3 ∷ 7 ∷ 2 ∷ 6 ∷ 0 ∷ 4 ∷ []) $ at-once ! $
-      show ! (λ (r′ : Answer). ex 𝓤 (λ (us′ : List ℕ). ex 𝓤 (λ (ys′ : List Link). ex 𝓤 (λ (os′ : List ℕ). guard 𝓤 (LendMet h us ys req os w r′ us′ ys′ os′) (sep 𝓤 (sep 𝓤 (A .lft κ q) (sem 𝓤 H A (finally u64 δ us′))) (sep 𝓤 (sep 𝓤 (A .lft κ′ q′) (sem 𝓤 H A (finally Link-row δ′ ys′))) (sep 𝓤 (A .lft κ″ q″) (sem 𝓤 H A (finally u8 δ″ os′))))))))) r $
-      show ! (λ (us′ : List ℕ). ex 𝓤 (λ (ys′ : List Link). ex 𝓤 (λ (os′ : List ℕ). guard 𝓤 (LendMet h us ys req os w r us′ ys′ os′) (sep 𝓤 (sep 𝓤 (A .lft κ q) (sem 𝓤 H A (finally u64 δ us′))) (sep 𝓤 (sep 𝓤 (A .lft κ′ q′) (sem 𝓤 H A (finally Link-row δ′ ys′))) (sep 𝓤 (A .lft κ″ q″) (sem 𝓤 H A (finally u8 δ″ os′)))))))) (ws .1 .0) $
-      show ! (λ (ys′ : List Link). ex 𝓤 (λ (os′ : List ℕ). guard 𝓤 (LendMet h us ys req os w r (ws .1 .0) ys′ os′) (sep 𝓤 (sep 𝓤 (A .lft κ q) (sem 𝓤 H A (finally u64 δ (ws .1 .0)))) (sep 𝓤 (sep 𝓤 (A .lft κ′ q′) (sem 𝓤 H A (finally Link-row δ′ ys′))) (sep 𝓤 (A .lft κ″ q″) (sem 𝓤 H A (finally u8 δ″ os′))))))) (ws .1 .1 .0) $
-      show ! (λ (os′ : List ℕ). guard 𝓤 (LendMet h us ys req os w r (ws .1 .0) (ws .1 .1 .0) os′) (sep 𝓤 (sep 𝓤 (A .lft κ q) (sem 𝓤 H A (finally u64 δ (ws .1 .0)))) (sep 𝓤 (sep 𝓤 (A .lft κ′ q′) (sem 𝓤 H A (finally Link-row δ′ (ws .1 .1 .0)))) (sep 𝓤 (A .lft κ″ q″) (sem 𝓤 H A (finally u8 δ″ os′)))))) (ws .1 .1 .1 .1 .0) $
+      show ! (λ (r′ : Answer). ex 𝓤 (λ (t : List ℕ × List Link × List ℕ). guard 𝓤 (LendMet h us ys req os w r′ (t .0) (t .1) (t .2)) (sep 𝓤 (sep 𝓤 (A .lft κ q) (sem 𝓤 H A (finally u64 δ (t .0)))) (sep 𝓤 (sep 𝓤 (A .lft κ′ q′) (sem 𝓤 H A (finally Link-row δ′ (t .1)))) (sep 𝓤 (A .lft κ″ q″) (sem 𝓤 H A (finally u8 δ″ (t .2)))))))) r $
+      show ! (λ (t : List ℕ × List Link × List ℕ). guard 𝓤 (LendMet h us ys req os w r (t .0) (t .1) (t .2)) (sep 𝓤 (sep 𝓤 (A .lft κ q) (sem 𝓤 H A (finally u64 δ (t .0)))) (sep 𝓤 (sep 𝓤 (A .lft κ′ q′) (sem 𝓤 H A (finally Link-row δ′ (t .1)))) (sep 𝓤 (A .lft κ″ q″) (sem 𝓤 H A (finally u8 δ″ (t .2))))))) (ws .1 .0, ws .1 .1 .0, ws .1 .1 .1 .1 .0) $
       check ! (record { value = ap only (Answer-tells r (w ∷ []) is); is = is; as-long = long; as-long′ = long′; as-long″ = long″; says = told }) $
       move ! (4 ∷ 5 ∷ []) $ join ! $ move ! (3 ∷ 4 ∷ []) $ join ! $ move ! (2 ∷ 3 ∷ []) $ join ! $ frame ! $ frame ! $ done !)))))))
 

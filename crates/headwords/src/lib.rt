@@ -246,9 +246,9 @@ pub fn links_in(words: usize) -> usize
 fn both(words: usize, links: usize) -> usize
     ensures { λ r. ⌜ r ≡ roomOf words links ⌝ }
 {
-    let n = words / LINK;
-    if n < links {
-        return n;
+    let held = words / LINK;
+    if held < links {
+        return held;
     }
     links
 }

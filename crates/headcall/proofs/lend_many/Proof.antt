@@ -163,14 +163,14 @@ module _ {M : Type 1} (𝓤 : URA M) (H : Heap 𝓤) (A : Atoms 𝓤) (W : Given
         join ! $ move ! (5 ∷ 6 ∷ []) $ join ! $ move ! (3 ∷ 4 ∷ []) $ join ! $
         use3 W (raw (Lend 𝓤 H A mem run .pre (to-lend 𝓤 H A W mem run b o n l₆ 0 k b′ o′ m h ws (take k r) req os (ν₁ ∷ []) fullShare δ₁ (ν ∷ []) fullShare δ (ν₂ ∷ []) fullShare δ₂))) (goes-lend 𝓤 H A W mem run b o n l₆ 0 k b′ o′ m h ws (take k r) req os (ν₁ ∷ []) fullShare δ₁ (ν ∷ []) fullShare δ (ν₂ ∷ []) fullShare δ₂ gh gr) $
         calls-at ! fm (Lend 𝓤 H A mem run) known-lend (to-lend 𝓤 H A W mem run b o n l₆ 0 k b′ o′ m h ws (take k r) req os (ν₁ ∷ []) fullShare δ₁ (ν ∷ []) fullShare δ (ν₂ ∷ []) fullShare δ₂) (and-then ! (load ! (from ! (stop !)) (look ! 28 refl)) (and-then ! (load ! (from ! (stop !)) (look ! 13 refl)) (and-then ! (load ! (from ! (stop !)) (look ! 9 refl)) (and-then ! (load ! (from ! (stop !)) (look ! 22 refl)) (and-then ! (load ! (from ! (stop !)) (look ! 5 refl)) (no-more !)))))) (λ w.
-        use1 W (Left-lend 𝓤 H A W mem run b o n l₆ 0 k b′ o′ m h ws (take k r) req os (ν₁ ∷ []) fullShare δ₁ (ν ∷ []) fullShare δ (ν₂ ∷ []) fullShare δ₂ w) (left-lend 𝓤 H A W mem run b o n l₆ 0 k b′ o′ m h ws (take k r) req os (ν₁ ∷ []) fullShare δ₁ (ν ∷ []) fullShare δ (ν₂ ∷ []) fullShare δ₂ w) $ await ! tt $ pick ! (λ a. pick ! (λ us. pick ! (λ zs. pick ! (λ os′. learn ! (λ d. split ! $
+        use1 W (Left-lend 𝓤 H A W mem run b o n l₆ 0 k b′ o′ m h ws (take k r) req os (ν₁ ∷ []) fullShare δ₁ (ν ∷ []) fullShare δ (ν₂ ∷ []) fullShare δ₂ w) (left-lend 𝓤 H A W mem run b o n l₆ 0 k b′ o′ m h ws (take k r) req os (ν₁ ∷ []) fullShare δ₁ (ν ∷ []) fullShare δ (ν₂ ∷ []) fullShare δ₂ w) $ await ! tt $ pick ! (λ a. pick ! (λ t. learn ! (λ d. split ! $
         land ! (from ! (stop !)) (init ! 31 refl (Answer-typed 𝓤 H A W a _ (d .is))) $ rewrite ! 31 (λ (u : Val). ‵ (fat fullShare M-Answer.mir l₀ 0 u)) (d .value) refl $
         move ! (1 ∷ []) $ split ! $ split ! $ move ! (2 ∷ []) $ split ! $ move ! (4 ∷ []) $ split ! $
-        move ! (0 ∷ 1 ∷ 7 ∷ []) $ returned ! tt u64 (named 0) (named 0) κ q γ b o n ws us ν₁ δ₁ room refl (d .as-long) $ move ! (2 ∷ 3 ∷ 6 ∷ []) $ returned ! tt u8 (named 1) (named 2) κ′ q′ γ′ b′ o′ m os os′ ν₂ δ₂ room′ refl (d .as-long″) $
-        move ! (4 ∷ 5 ∷ 6 ∷ 7 ∷ []) $ first-back ! tt Link-row Link-mach Link-tells 64 k l₆ r zs ν δ l (long r e) (λ is. move ! (3 ∷ 4 ∷ 1 ∷ 2 ∷ 0 ∷ []) $
+        move ! (0 ∷ 1 ∷ 7 ∷ []) $ returned ! tt u64 (named 0) (named 0) κ q γ b o n ws (t .0) ν₁ δ₁ room refl (d .as-long) $ move ! (2 ∷ 3 ∷ 6 ∷ []) $ returned ! tt u8 (named 1) (named 2) κ′ q′ γ′ b′ o′ m os (t .2) ν₂ δ₂ room′ refl (d .as-long″) $
+        move ! (4 ∷ 5 ∷ 6 ∷ 7 ∷ []) $ first-back ! tt Link-row Link-mach Link-tells 64 k l₆ r (t .1) ν δ l (long r e) (λ is. move ! (3 ∷ 4 ∷ 1 ∷ 2 ∷ 0 ∷ []) $
         returns ! (look ! 30 refl) $ forget ! 30 refl $ forget ! 28 refl $ forget ! 26 refl $ forget ! 24 refl $ forget ! 22 refl $ forget ! 20 refl $ forget ! 4 refl $ forget ! 15 refl $ forget ! 13 refl $ forget ! 11 refl $ forget ! 9 refl $ forget ! 7 refl $ forget ! 5 refl $
         move ! (30 ∷ 31 ∷ []) $ free1 ! $ move ! (28 ∷ 29 ∷ []) $ free1 ! $ move ! (26 ∷ 27 ∷ []) $ free1 ! $ move ! (24 ∷ 25 ∷ []) $ free1 ! $ move ! (22 ∷ 23 ∷ []) $ free1 ! $ move ! (20 ∷ 21 ∷ []) $ free1 ! $ move ! (4 ∷ 19 ∷ []) $ free1 ! $ move ! (16 ∷ 17 ∷ []) $ free1 ! $ move ! (14 ∷ 15 ∷ []) $ free1 ! $ move ! (12 ∷ 13 ∷ []) $ free1 ! $ move ! (10 ∷ 11 ∷ []) $ free1 ! $ move ! (8 ∷ 9 ∷ []) $ free1 ! $ move ! (6 ∷ 7 ∷ []) $ free1 ! $ move ! (4 ∷ 5 ∷ []) $ free1 ! $ free0 ! $
-        by ! (exits us os′ a (d .says ∙ ap (λ (t : List Link). lendOf h ws t req os) (first r e)) (d .as-long) (d .as-long″) (is-now Answer-row Answer-mach a w (d .value) (d .is)))))))))))))
+        by ! (exits (t .0) (t .2) a (d .says ∙ ap (λ (xs : List Link). lendOf h ws xs req os) (first r e)) (d .as-long) (d .as-long″) (is-now Answer-row Answer-mach a w (d .value) (d .is)))))))))))
 
     makes : Sq W (Held ws os Begun) (runs C Λ E parts.t-1 (atRet E Post))
     makes =
