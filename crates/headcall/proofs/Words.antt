@@ -27,7 +27,7 @@ use Rattle.serving.specs.Serve.{Served, doneOf, serveOf}
 use Rattle.serving.specs.declared.Answer.{Answer}
 use Rattle.words.specs.Laws.{laid-over}
 use Rattle.words.specs.Words.{laid}
-use Rattle.headcall.specs.Calls.{left, begunLeft, Told, told, headAt, isLent, laidHead, keptHead, keptLinks, begunHead, toldOf, handed, servedOf, refusedOf, heardOf, cleared, begunOf as begun}
+use Rattle.headcall.specs.Calls.{left, begunLeft, Told, told, headAt, isLent, keptHead, keptLinks, begunHead, toldOf, handed, servedOf, refusedOf, heardOf, cleared, begunOf as begun}
 use Rattle.headcall.specs.Lend.{keptOf, LendLeft, lendLeft, lendOf, ClearLeft, clearLeft, clearOf}
 
 length-places : (f : ℕ → Link → Link) (k : ℕ) (xs : List Link) → length (places f k xs) ≡ length xs
