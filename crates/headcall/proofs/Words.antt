@@ -1,19 +1,19 @@
--- A call over the loaded table is the core's over the links that the words tell.
+-- A call over links that are lent and loaded is the core's over the links that the words tell.
 -- Assumes nothing.
-use Prim.Native.Nat.{ℕ, _*_, _-_, _≤_}
+use Prim.Native.Nat.{ℕ, zero, suc, _*_, _/_, _≤_, min}
 use mathlib.Core.Path.{_≡_, refl, sym, ap, _∙_}
 use mathlib.Core.Bool.{Bool, true, false, cond}
-use mathlib.Core.List.{List, _++_}
+use mathlib.Core.List.{List, [], _∷_, _++_, append-nil}
 use native.Mathlib.Omega.{arith}
-use native.Mathlib.Nat.{le-refl}
+use native.Mathlib.Nat.{le-refl, not-suc-le-zero, le-of-suc-le-suc}
 use lib.Dec.{eqb}
-use lib.ListN.{length, take, drop, replicate}
-use lib.Seq.{take-at}
+use lib.ListN.{length, take, drop, replicate, length-replicate, drop-of-length-le}
+use lib.Seq.{take-length}
 use Rattle.frame.specs.Card.{numberOf}
 use Rattle.frame.specs.declared.Address.{Address}
 use Rattle.head.specs.declared.Head.{Head}
 use Rattle.headwords.specs.Laws.{links-few, length-links, length-table}
-use Rattle.headwords.specs.Table.{tableWords, linksIn, linksAt, loaded, stored}
+use Rattle.headwords.specs.Table.{tableWords, linksOf, linksIn, linksAt, roomOf, loaded, stored}
 use Rattle.headwords.specs.Told.{toldWords}
 use Rattle.judging.specs.declared.Request.{Request}
 use Rattle.lent.specs.Folds.{places}
@@ -27,8 +27,8 @@ use Rattle.serving.specs.Serve.{Served, doneOf, serveOf}
 use Rattle.serving.specs.declared.Answer.{Answer}
 use Rattle.words.specs.Laws.{laid-over}
 use Rattle.words.specs.Words.{laid}
-use Rattle.headcall.specs.Calls.{left, begunLeft, Told, told, headAt, isLent, laidHead, keptHead, keptLinks, begunHead, toldOf, handed, servedOf, refusedOf, heardOf, cleared, begunOf as begun}
-use Rattle.headcall.specs.Lend.{Kept, kept, keptOf, LendLeft, lendLeft, lendOf, clearOf}
+use Rattle.headcall.specs.Calls.{left, begunLeft, Told, told, headAt, isLent, keptHead, keptLinks, begunHead, toldOf, handed, servedOf, refusedOf, heardOf, cleared, begunOf as begun}
+use Rattle.headcall.specs.Lend.{keptOf, LendLeft, lendLeft, lendOf, ClearLeft, clearLeft, clearOf}
 
 length-places : (f : ℕ → Link → Link) (k : ℕ) (xs : List Link) → length (places f k xs) ≡ length xs
 length-places f k xs = sym (ap length (up-all f k xs (length xs) (le-refl (length xs)))) ∙ up-length f k xs (length xs)
@@ -46,57 +46,99 @@ length-cleared : (a : Address) (xs : List Link) → length (freshOf a xs .table)
 unfolding freshOf
 length-cleared a xs = cleared-by (isDone (begunOf a (length xs) .reply)) xs
 
--- the first links of the loaded table
-first-links : (ws : List ℕ) → take (linksIn (length ws)) (loaded ws) ≡ linksAt ws
-unfolding loaded
-first-links ws = take-at (linksAt ws) (replicate (64 - linksIn (length ws)) idle) (linksIn (length ws)) (length-links (linksIn (length ws)) ws)
+-- the first of a table of idle links
+pub take-idle : (k m : ℕ) → k ≤ m → take k (replicate m idle) ≡ replicate k idle
+take-idle zero m l = refl
+take-idle (suc k) zero l = absurd (not-suc-le-zero l)
+take-idle (suc k) (suc m) l = ap (λ (xs : List Link). idle ∷ xs) (take-idle k m (le-of-suc-le-suc l))
 
--- what is stored of a table is laid over the words
-stored-laid : (ls ys : List Link) (ws : List ℕ) → length ls ≡ linksIn (length ws) → stored (ls ++ ys) ws ≡ laid (tableWords ls) ws
-unfolding stored
-stored-laid ls ys ws e =
-    let size : length (tableWords ls) ≡ 5 * linksIn (length ws) = length-table ls ∙ ap (λ (k : ℕ). 5 * k) e in
-    let fits : length (tableWords ls) ≤ length ws = omega (arith, size, links-few (length ws) .1) in
-    ap (λ (us : List Link). tableWords us ++ drop (5 * linksIn (length ws)) ws) (take-at ls ys (linksIn (length ws)) e)
+-- where just as many links are lent as the words hold, they become those that the words tell
+loaded-all : (ws : List ℕ) (xs : List Link) → length xs ≡ linksIn (length ws) → loaded ws xs ≡ linksAt ws
+unfolding loaded roomOf
+loaded-all ws xs e =
+    let n : ℕ = linksIn (length ws) in
+    let all : min (length ws / 5) (length xs) ≡ n = omega (arith, e, links-few (length ws) .1) in
+    let none : drop n xs ≡ [] = drop-of-length-le xs {i = n} (omega (arith, e)) in
+    ap (λ (k : ℕ). linksOf k ws ++ drop k xs) all ∙ ap (λ (ys : List Link). linksOf n ws ++ ys) none ∙ append-nil (linksOf n ws)
+
+no-words : (ws : List ℕ) → tableWords [] ++ drop (5 * 0) ws ≡ ws
+unfolding tableWords
+no-words ws = refl
+
+-- and all of them are laid back where the call is done
+laid-by : (t : Bool) (ls : List Link) (m : ℕ) (ws : List ℕ) → length ls ≡ linksIn (length ws) → m ≡ linksIn (length ws)
+    → stored ls (cond t m 0) ws ≡ cond t (laid (tableWords ls) ws) ws
+unfolding stored roomOf
+laid-by true ls m ws e f =
+    let few = links-few (length ws) in
+    let all : min m (min (length ws / 5) (length ls)) ≡ length ls = omega (arith, e, f, few .1) in
+    let size : length (tableWords ls) ≡ 5 * length ls = length-table ls in
+    let fits : length (tableWords ls) ≤ length ws = omega (arith, size, e, few .1) in
+    ap (λ (k : ℕ). tableWords (take k ls) ++ drop (5 * k) ws) all
+    ∙ ap (λ (us : List Link). tableWords us ++ drop (5 * length ls) ws) (take-length ls)
     ∙ ap (λ (k : ℕ). tableWords ls ++ drop k ws) (sym size)
     ∙ sym (laid-over (tableWords ls) ws fits)
+laid-by false ls m ws e f =
+    let none : min 0 (min (length ws / 5) (length ls)) ≡ 0 = omega arith in
+    ap (λ (k : ℕ). tableWords (take k ls) ++ drop (5 * k) ws) none ∙ no-words ws
 
-pub lent-is : (h : Head) (ws : List ℕ) (r : Request) (os : List ℕ)
-    → lendOf h ws (linksIn (length ws)) r os
+kept-laid : (a : Answer) (ls : List Link) (m : ℕ) (ws : List ℕ) → length ls ≡ linksIn (length ws) → m ≡ linksIn (length ws)
+    → stored ls (keptOf a m) ws ≡ keptLinks a ls ws
+unfolding keptOf keptLinks
+kept-laid a ls m ws e f = laid-by (isDone (a .reply)) ls m ws e f
+
+pub lent-is : (h : Head) (ws : List ℕ) (xs : List Link) (r : Request) (os : List ℕ) → length xs ≡ linksIn (length ws)
+    → lendOf h ws xs r os
     ≡ lendLeft (serveOf h (linksAt ws) r os .answer) (keptLinks (serveOf h (linksAt ws) r os .answer) (serveOf h (linksAt ws) r os .table) ws)
     (serveOf h (linksAt ws) r os .octets)
-unfolding lendOf keptOf keptLinks
-lent-is h ws r os =
-    let n : ℕ = linksIn (length ws) in
+unfolding lendOf
+lent-is h ws xs r os e =
     let done : Served = serveOf h (linksAt ws) r os in
-    let few : length (done .table) ≡ n = length-served h (linksAt ws) r os ∙ length-links n ws in
-    ap (λ (y : List Link). lendLeft (serveOf h y r os .answer) (keptOf (serveOf h y r os .answer) (serveOf h y r os .table ++ drop n (loaded ws)) ws .words) (serveOf h y r os .octets))
-    (first-links ws)
-    ∙ ap (λ (us : List ℕ). lendLeft (done .answer) (cond (isDone (done .answer .reply)) us ws) (done .octets))
-    (stored-laid (done .table) (drop n (loaded ws)) ws few)
+    let few : length (done .table) ≡ linksIn (length ws) = length-served h (linksAt ws) r os ∙ length-links (linksIn (length ws)) ws in
+    ap (λ (y : List Link). lendLeft (serveOf h y r os .answer) (stored (serveOf h y r os .table) (keptOf (serveOf h y r os .answer) (length xs)) ws) (serveOf h y r os .octets))
+    (loaded-all ws xs e)
+    ∙ ap (λ (us : List ℕ). lendLeft (done .answer) us (done .octets)) (kept-laid (done .answer) (done .table) (length xs) ws few e)
 
-pub cleared-is : (a : Address) (ws : List ℕ)
-    → clearOf a ws (linksIn (length ws))
-    ≡ kept (freshOf a (linksAt ws) .answer) (keptLinks (freshOf a (linksAt ws) .answer) (freshOf a (linksAt ws) .table) ws)
-unfolding clearOf keptOf keptLinks
-cleared-is a ws =
-    let n : ℕ = linksIn (length ws) in
-    let made : Freshly = freshOf a (linksAt ws) in
-    let few : length (made .table) ≡ n = length-cleared a (linksAt ws) ∙ length-links n ws in
-    ap (λ (y : List Link). keptOf (freshOf a y .answer) (freshOf a y .table ++ drop n (loaded ws)) ws) (first-links ws)
-    ∙ ap (λ (us : List ℕ). kept (made .answer) (cond (isDone (made .answer .reply)) us ws)) (stored-laid (made .table) (drop n (loaded ws)) ws few)
+-- a fresh head's links are idle, whatever they were
+all-idle : (k : ℕ) (xs : List Link) → places (λ j l. idle) k xs ≡ replicate (length xs) idle
+unfolding places
+all-idle k [] = refl
+all-idle k (x ∷ xs) = ap (λ (zs : List Link). idle ∷ zs) (all-idle (suc k) xs)
+
+alike-by : (t : Bool) (ws : List ℕ) (xs ys : List Link) → length xs ≡ length ys
+    → cond t (laid (tableWords (cond t (places (λ k l. idle) 1 xs) xs)) ws) ws ≡ cond t (laid (tableWords (cond t (places (λ k l. idle) 1 ys) ys)) ws) ws
+alike-by true ws xs ys e = ap (λ (zs : List Link). laid (tableWords zs) ws) (all-idle 1 xs ∙ ap (λ (n : ℕ). replicate n idle) e ∙ sym (all-idle 1 ys))
+alike-by false ws xs ys e = refl
+
+-- so what a fresh head leaves is a matter of how many links are lent
+fresh-alike : (a : Address) (ws : List ℕ) (xs ys : List Link) → length xs ≡ length ys
+    → clearLeft (freshOf a xs .answer) (keptLinks (freshOf a xs .answer) (freshOf a xs .table) ws)
+    ≡ clearLeft (freshOf a ys .answer) (keptLinks (freshOf a ys .answer) (freshOf a ys .table) ws)
+unfolding freshOf keptLinks
+fresh-alike a ws xs ys e =
+    ap (λ (n : ℕ). clearLeft (begunOf a n) (cond (isDone (begunOf a n .reply)) (laid (tableWords (cond (isDone (begunOf a n .reply)) (places (λ k l. idle) 1 xs) xs)) ws) ws)) e
+    ∙ ap (clearLeft (begunOf a (length ys))) (alike-by (isDone (begunOf a (length ys) .reply)) ws xs ys e)
+
+pub cleared-is : (a : Address) (ws : List ℕ) (xs : List Link) → length xs ≡ linksIn (length ws)
+    → clearOf a ws xs
+    ≡ clearLeft (freshOf a (linksAt ws) .answer) (keptLinks (freshOf a (linksAt ws) .answer) (freshOf a (linksAt ws) .table) ws)
+unfolding clearOf
+cleared-is a ws xs e =
+    let made : Freshly = freshOf a xs in
+    ap (clearLeft (made .answer)) (kept-laid (made .answer) (made .table) (length xs) ws (length-cleared a xs ∙ e) e)
+    ∙ fresh-alike a ws xs (linksAt ws) (e ∙ sym (length-links (linksIn (length ws)) ws))
 
 -- the whole call, of what each step of it left
 pub served-whole : (r : Request) (head links output reply : List ℕ) (t : Bool) (h : Head) (n : ℕ) (a : Answer) (head′ links′ output′ reply′ : List ℕ) (k : ℕ)
     → t ≡ isLent (length head) (length reply) → t ≡ true → h ≡ headAt head → n ≡ linksIn (length links)
-    → lendLeft a links′ output′ ≡ lendOf h links n r output → head′ ≡ keptHead a head → told k reply′ ≡ toldOf a reply
+    → lendLeft a links′ output′ ≡ lendOf h links (replicate n idle) r output → head′ ≡ keptHead a head → told k reply′ ≡ toldOf a reply
     → left k head′ links′ output′ reply′ ≡ servedOf r head links output reply
 unfolding servedOf handed toldOf
 served-whole r head links output reply t h n a head′ links′ output′ reply′ k lent taken at few said keeps tells =
     let done : Served = serveOf (headAt head) (linksAt links) r output in
     let whole : lendLeft a links′ output′ ≡ lendLeft (done .answer) (keptLinks (done .answer) (done .table) links) (done .octets) =
-    said ∙ ap (λ (y : Head). lendOf y links n r output) at ∙ ap (λ (y : ℕ). lendOf (headAt head) links y r output) few
-    ∙ lent-is (headAt head) links r output in
+    said ∙ ap (λ (y : Head). lendOf y links (replicate n idle) r output) at
+    ∙ lent-is (headAt head) links (replicate n idle) r output (length-replicate n idle ∙ few) in
     ap (λ (u : Told). left (u .number) head′ links′ output′ (u .reply)) tells
     ∙ ap (λ (us : List ℕ). left (numberOf (a .reply)) us links′ output′ (laid (toldWords a) reply)) keeps
     ∙ ap (λ (u : LendLeft). left (numberOf (u .answer .reply)) (keptHead (u .answer) head) (u .words) (u .octets) (laid (toldWords (u .answer)) reply)) whole
@@ -104,16 +146,16 @@ served-whole r head links output reply t h n a head′ links′ output′ reply�
 
 pub begun-whole : (o : Address) (head links reply : List ℕ) (t : Bool) (n : ℕ) (a : Answer) (head′ links′ reply′ : List ℕ) (k : ℕ)
     → t ≡ isLent (length head) (length reply) → t ≡ true → n ≡ linksIn (length links)
-    → kept a links′ ≡ clearOf o links n → head′ ≡ begunHead a head → told k reply′ ≡ toldOf a reply
+    → clearLeft a links′ ≡ clearOf o links (replicate n idle) → head′ ≡ begunHead a head → told k reply′ ≡ toldOf a reply
     → begunLeft k head′ links′ reply′ ≡ begun o head links reply
 unfolding begun cleared toldOf
 begun-whole o head links reply t n a head′ links′ reply′ k lent taken few said lays tells =
     let made : Freshly = freshOf o (linksAt links) in
-    let whole : kept a links′ ≡ kept (made .answer) (keptLinks (made .answer) (made .table) links) =
-    said ∙ ap (λ (y : ℕ). clearOf o links y) few ∙ cleared-is o links in
+    let whole : clearLeft a links′ ≡ clearLeft (made .answer) (keptLinks (made .answer) (made .table) links) =
+    said ∙ cleared-is o links (replicate n idle) (length-replicate n idle ∙ few) in
     ap (λ (u : Told). begunLeft (u .number) head′ links′ (u .reply)) tells
     ∙ ap (λ (us : List ℕ). begunLeft (numberOf (a .reply)) us links′ (laid (toldWords a) reply)) lays
-    ∙ ap (λ (u : Kept). begunLeft (numberOf (u .answer .reply)) (begunHead (u .answer) head) (u .words) (laid (toldWords (u .answer)) reply)) whole
+    ∙ ap (λ (u : ClearLeft). begunLeft (numberOf (u .answer .reply)) (begunHead (u .answer) head) (u .words) (laid (toldWords (u .answer)) reply)) whole
     ∙ ap (λ (b : Bool). cond b (cleared made head links reply) (begunLeft 100 head links reply)) (sym taken ∙ lent)
 
 -- a frame that the reader refused

@@ -1,9 +1,9 @@
--- The core's call over the first n links that words tell, with what it then leaves in the words.
+-- The core's call over lent links, with what it then leaves in the words.
 -- Assumes nothing.
 use Prim.Native.Nat.{ℕ}
 use mathlib.Core.Bool.{cond}
-use mathlib.Core.List.{List, _++_}
-use lib.ListN.{take, drop}
+use mathlib.Core.List.{List}
+use lib.ListN.{length}
 use Rattle.frame.specs.declared.Address.{Address}
 use Rattle.head.specs.declared.Head.{Head}
 use Rattle.headwords.specs.Table.{loaded, stored}
@@ -13,19 +13,11 @@ use Rattle.serving.specs.Fresh.{isDone, freshOf}
 use Rattle.serving.specs.Serve.{serveOf}
 use Rattle.serving.specs.declared.Answer.{Answer}
 
--- the answer, and what then stands in the words
-pub record Kept : Type 0 where
-  pub answer : Answer
-  pub words : List ℕ
+-- how many links are laid back: all where the call is done, none where it is refused
+unfoldable pub keptOf : Answer → ℕ → ℕ
+keptOf a n = cond (isDone (a .reply)) n 0
 
-abbrev pub kept : Answer → List ℕ → Kept
-kept a ws = record { answer = a; words = ws }
-
--- the table of a call that is done, or the words as they were
-unfoldable pub keptOf : Answer → List Link → List ℕ → Kept
-keptOf a xs ws = kept a (cond (isDone (a .reply)) (stored xs ws) ws)
-
--- and in the output
+-- the answer, and what then stands in the words and in the output
 pub record LendLeft : Type 0 where
   pub answer : Answer
   pub words : List ℕ
@@ -34,12 +26,20 @@ pub record LendLeft : Type 0 where
 abbrev pub lendLeft : Answer → List ℕ → List ℕ → LendLeft
 lendLeft a ws os = record { answer = a; words = ws; octets = os }
 
-unfoldable pub lendOf : Head → List ℕ → ℕ → Request → List ℕ → LendLeft
-lendOf h ws n r os =
-    let done = serveOf h (take n (loaded ws)) r os in
-    lendLeft (done .answer) (keptOf (done .answer) (done .table ++ drop n (loaded ws)) ws .words) (done .octets)
+unfoldable pub lendOf : Head → List ℕ → List Link → Request → List ℕ → LendLeft
+lendOf h ws xs r os =
+    let done = serveOf h (loaded ws xs) r os in
+    lendLeft (done .answer) (stored (done .table) (keptOf (done .answer) (length xs)) ws) (done .octets)
 
-unfoldable pub clearOf : Address → List ℕ → ℕ → Kept
-clearOf a ws n =
-    let made = freshOf a (take n (loaded ws)) in
-    keptOf (made .answer) (made .table ++ drop n (loaded ws)) ws
+-- the same of a call that lends no output
+pub record ClearLeft : Type 0 where
+  pub answer : Answer
+  pub words : List ℕ
+
+abbrev pub clearLeft : Answer → List ℕ → ClearLeft
+clearLeft a ws = record { answer = a; words = ws }
+
+unfoldable pub clearOf : Address → List ℕ → List Link → ClearLeft
+clearOf a ws xs =
+    let made = freshOf a xs in
+    clearLeft (made .answer) (stored (made .table) (keptOf (made .answer) (length xs)) ws)

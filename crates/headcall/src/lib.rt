@@ -1,10 +1,11 @@
 // The head's calls over words in the caller's memory: head and table are taken from them, and laid back where a call is done.
 ghost use mathlib.Core.Path.{_≡_};
 ghost use Prim.Native.Nat.{_≤_};
-ghost use lib.ListN.{getD};
+ghost use lib.ListN.{getD, replicate};
 ghost use Rattle.headcall.specs.Calls.{left, begunLeft, told, headAt, isLent, laidHead, keptHead, begunHead, toldOf, refusedOf, servedOf, heardOf, begunOf};
 ghost use Rattle.headcall.specs.Gate.{leaveOf, askedOf};
-ghost use Rattle.headcall.specs.Lend.{kept, keptOf, lendLeft, lendOf, clearOf};
+ghost use Rattle.headcall.specs.Lend.{keptOf, lendLeft, lendOf, clearLeft, clearOf};
+ghost use Rattle.links.specs.Link.{idle};
 use clock::Count;
 use clock::Quanta;
 use frame::Address;
@@ -27,38 +28,93 @@ const HEAD: usize = 5;
 
 const REPLY: usize = 5;
 
+// Up to so many links are few.
+const FEW: usize = 8;
+
 // A grant is one word: its start in the upper 32 bits, its length below.
 const TURN: u64 = 0x100000000;
 
-// A call that is done leaves its table in the words, a refused one leaves them as they were.
-fn keep(words: &mut [u64], answer: Answer, table: [Link; 64]) -> Answer
-    ensures { λ r. ⌜ kept r (now (words .exit)) ≡ keptOf answer table (now (words .entry)) ⌝ }
+// How many links a call lays back in the words: all where it is done, none where it is refused.
+fn kept(answer: Answer, links: usize) -> usize
+    ensures { λ r. ⌜ r ≡ keptOf answer links ⌝ }
 {
     let reply = answer.reply;
     if reply.number() == 0 {
-        headwords::store_links(table, words);
-        return answer;
+        return links;
     }
+    0
+}
+
+// The lent links are those in the words for as long as the call takes.
+fn lend(
+    head: Head,
+    words: &mut [u64],
+    links: &mut [Link],
+    request: Request,
+    out: &mut [u8],
+) -> Answer
+    ensures { λ r. ⌜ lendLeft r (now (words .exit)) (now (out .exit)) ≡ lendOf head (now (words .entry)) (now (links .entry)) request (now (out .entry)) ⌝ }
+{
+    headwords::load_links(words, links);
+    let answer = serving::serve(head, links, request, out);
+    headwords::store_links(links, kept(answer, links.len()), words);
     answer
 }
 
-// The first n links of the words are lent to the head.
-fn lend(head: Head, words: &mut [u64], n: usize, request: Request, out: &mut [u8]) -> Answer
-    requires { ⌜ n ≤ 64 ⌝ }
-    ensures { λ r. ⌜ lendLeft r (now (words .exit)) (now (out .exit)) ≡ lendOf head (now (words .entry)) n request (now (out .entry)) ⌝ }
+// A fresh head reads no link.
+fn clear(address: Address, words: &mut [u64], links: &mut [Link]) -> Answer
+    ensures { λ r. ⌜ clearLeft r (now (words .exit)) ≡ clearOf address (now (words .entry)) (now (links .entry)) ⌝ }
 {
-    let mut table = headwords::load_links(words);
-    let answer = serving::serve(head, &mut table[..n], request, out);
-    keep(words, answer, table)
+    let answer = serving::fresh(address, links);
+    headwords::store_links(links, kept(answer, links.len()), words);
+    answer
 }
 
-fn clear(address: Address, words: &mut [u64], n: usize) -> Answer
-    requires { ⌜ n ≤ 64 ⌝ }
-    ensures { λ r. ⌜ kept r (now (words .exit)) ≡ clearOf address (now (words .entry)) n ⌝ }
+fn few() -> [Link; 8]
+    ensures { λ r. ⌜ r ≡ replicate 8 idle ⌝ }
 {
-    let mut table = headwords::load_links(words);
-    let answer = serving::fresh(address, &mut table[..n]);
-    keep(words, answer, table)
+    [Link::idle(); 8]
+}
+
+fn many() -> [Link; 64]
+    ensures { λ r. ⌜ r ≡ replicate 64 idle ⌝ }
+{
+    [Link::idle(); 64]
+}
+
+fn lend_few(head: Head, words: &mut [u64], n: usize, request: Request, out: &mut [u8]) -> Answer
+    requires { ⌜ n ≤ 8 ⌝ }
+    ensures { λ r. ⌜ lendLeft r (now (words .exit)) (now (out .exit)) ≡ lendOf head (now (words .entry)) (replicate n idle) request (now (out .entry)) ⌝ }
+{
+    let mut table = few();
+    lend(head, words, &mut table[..n], request, out)
+}
+
+fn lend_many(head: Head, words: &mut [u64], n: usize, request: Request, out: &mut [u8]) -> Answer
+    requires { ⌜ n ≤ 64 ⌝ }
+    ensures { λ r. ⌜ lendLeft r (now (words .exit)) (now (out .exit)) ≡ lendOf head (now (words .entry)) (replicate n idle) request (now (out .entry)) ⌝ }
+{
+    let mut table = many();
+    lend(head, words, &mut table[..n], request, out)
+}
+
+fn clear_many(address: Address, words: &mut [u64], n: usize) -> Answer
+    requires { ⌜ n ≤ 64 ⌝ }
+    ensures { λ r. ⌜ clearLeft r (now (words .exit)) ≡ clearOf address (now (words .entry)) (replicate n idle) ⌝ }
+{
+    let mut table = many();
+    clear(address, words, &mut table[..n])
+}
+
+// Most tables are small, and a table of many links takes long to make.
+fn lend_all(head: Head, words: &mut [u64], n: usize, request: Request, out: &mut [u8]) -> Answer
+    requires { ⌜ n ≤ 64 ⌝ }
+    ensures { λ r. ⌜ lendLeft r (now (words .exit)) (now (out .exit)) ≡ lendOf head (now (words .entry)) (replicate n idle) request (now (out .entry)) ⌝ }
+{
+    if n <= FEW {
+        return lend_few(head, words, n, request, out);
+    }
+    lend_many(head, words, n, request, out)
 }
 
 fn is_lent(head: usize, reply: usize) -> bool
@@ -116,7 +172,7 @@ pub fn served(
     if is_lent(head.len(), reply.len()) {
         let h = load_head(head);
         let n = headwords::links_in(links.len());
-        let answer = lend(h, links, n, request, out);
+        let answer = lend_all(h, links, n, request, out);
         keep_head(answer, head);
         return tell(answer, reply);
     }
@@ -172,7 +228,7 @@ pub fn begun(address: Address, head: &mut [u64], links: &mut [u64], reply: &mut 
 {
     if is_lent(head.len(), reply.len()) {
         let n = headwords::links_in(links.len());
-        let answer = clear(address, links, n);
+        let answer = clear_many(address, links, n);
         lay_begun(answer, head);
         return tell(answer, reply);
     }

@@ -1,20 +1,18 @@
 -- A table's words one link further on: what the loops over them do in a turn. And how many words a reply has.
 -- Assumes nothing.
-use Prim.Native.Nat.{ℕ, zero, suc, _+_, _*_, _-_, _/_, _≤_, _<_}
+use Prim.Native.Nat.{ℕ, zero, suc, _+_, _*_, _/_, _≤_, _<_}
 use mathlib.Core.Bool.{Bool, true, false}
 use mathlib.Core.Path.{_≡_, refl, sym, _∙_, ap}
 use mathlib.Core.List.{List, [], _∷_, _++_}
 use native.Mathlib.Omega.{arith}
 use native.Mathlib.Nat.{add-zero}
-use native.Mathlib.Numerals.{add-one}
 use borrow.Author.Tests.{leb-true}
 use lib.Dec.{eqb, leb}
-use lib.ListN.{length, take, drop, getD, set, replicate, length-append, length-replicate}
-use lib.Seq.{length-take-le, take-suc, append-snoc, set-at, take-at, drop-at, drop-drop, getD-drop, sets-eq}
+use lib.ListN.{length, take, drop, getD, set}
+use lib.Seq.{length-take-le, take-suc, append-snoc, set-at, take-at, drop-at, drop-cons, drop-drop, getD-drop, sets-eq}
 use Rattle.laws.specs.Cases.{either}
-use Rattle.links.specs.Link.{idle}
 use Rattle.links.specs.declared.Link.{Link}
-use Rattle.headwords.specs.Table.{linkWords, linkIn, five, wordsAt, tableWords, linksOf, linksIn, loaded}
+use Rattle.headwords.specs.Table.{linkWords, linkIn, five, wordsAt, tableWords, linksOf, linksIn}
 use Rattle.headwords.specs.Told.{kindWord, noticeWords, toldWords}
 use Rattle.headwords.specs.declared.LinkWords.{LinkWords}
 use Rattle.serving.specs.declared.Answer.{Answer}
@@ -61,19 +59,13 @@ links-more (suc n) ws =
     ∙ ap (λ (u : List ℕ). linksOf n (drop 5 ws) ++ (linkIn (wordsAt u) ∷ [])) (drop-drop (5 * n) 5 ws ∙ ap (λ (k : ℕ). drop k ws) further))
 
 -- a turn of the loop that loads them
-pub load-turn : (ws : List ℕ) (i : ℕ) (v : Link) (out : List Link) → i < 64 → v ≡ linkIn (wordsAt (drop (5 * i) ws))
-    → out ≡ linksOf i ws ++ replicate (64 - i) idle → set out i v ≡ linksOf (i + 1) ws ++ replicate (64 - (i + 1)) idle
-load-turn ws i v out h e p =
-    let one : 64 - i ≡ suc (63 - i) = omega arith in
-    let rest : 64 - (i + 1) ≡ 63 - i = omega arith in
-    let before : out ≡ linksOf i ws ++ idle ∷ replicate (63 - i) idle = p ∙ ap (λ (k : ℕ). linksOf i ws ++ replicate k idle) one in
-    let more : linksOf i ws ++ (v ∷ []) ≡ linksOf (i + 1) ws =
-    ap (λ (l : Link). linksOf i ws ++ (l ∷ [])) e ∙ sym (links-more i ws) ∙ ap (λ (k : ℕ). linksOf k ws) (sym (add-one i)) in
-    ap (λ (ls : List Link). set ls i v) before
-    ∙ set-at (linksOf i ws) idle (replicate (63 - i) idle) v i (length-links i ws)
-    ∙ sym (append-snoc (linksOf i ws) v (replicate (63 - i) idle))
-    ∙ ap (λ (ls : List Link). ls ++ replicate (63 - i) idle) more
-    ∙ ap (λ (k : ℕ). linksOf (i + 1) ws ++ replicate k idle) (sym rest)
+pub load-turn : (ws : List ℕ) (xs out : List Link) (i : ℕ) (v d : Link) → i < length xs → v ≡ linkIn (wordsAt (drop (5 * i) ws))
+    → out ≡ linksOf i ws ++ drop i xs → set out i v ≡ linksOf (suc i) ws ++ drop (suc i) xs
+load-turn ws xs out i v d h e p =
+    ap (λ (ls : List Link). set ls i v) (p ∙ ap (λ (ls : List Link). linksOf i ws ++ ls) (drop-cons xs i d h))
+    ∙ set-at (linksOf i ws) (getD xs i d) (drop (suc i) xs) v i (length-links i ws)
+    ∙ sym (append-snoc (linksOf i ws) v (drop (suc i) xs))
+    ∙ ap (λ (ls : List Link). ls ++ drop (suc i) xs) (ap (λ (l : Link). linksOf i ws ++ (l ∷ [])) e ∙ sym (links-more i ws))
 
 pub length-table : (ls : List Link) → length (tableWords ls) ≡ 5 * length ls
 unfolding tableWords
@@ -93,7 +85,7 @@ table-more ls i d h = ap tableWords (take-suc ls i d h) ∙ table-append (take i
 
 -- a turn of the loop that stores them
 pub store-turn : (ls : List Link) (ws now : List ℕ) (i : ℕ) (d : Link) → i < length ls → now ≡ tableWords (take i ls) ++ drop (5 * i) ws
-    → take (5 * i) now ++ five (linkWords (getD ls i d)) ++ drop (5 * i + 5) now ≡ tableWords (take (i + 1) ls) ++ drop (5 * (i + 1)) ws
+    → take (5 * i) now ++ five (linkWords (getD ls i d)) ++ drop (5 * i + 5) now ≡ tableWords (take (suc i) ls) ++ drop (5 * suc i) ws
 store-turn ls ws now i d h p =
     let few : i ≤ length ls = omega arith in
     let size : length (tableWords (take i ls)) ≡ 5 * i = length-table (take i ls) ∙ ap (λ (k : ℕ). 5 * k) (length-take-le i ls few) in
@@ -101,21 +93,12 @@ store-turn ls ws now i d h p =
     ap (take (5 * i)) p ∙ take-at (tableWords (take i ls)) (drop (5 * i) ws) (5 * i) size in
     let behind : drop (5 * i) now ≡ drop (5 * i) ws =
     ap (drop (5 * i)) p ∙ drop-at (tableWords (take i ls)) (drop (5 * i) ws) (5 * i) size in
-    let further : 5 * i + 5 ≡ 5 * (i + 1) = omega arith in
-    let rest : drop (5 * i + 5) now ≡ drop (5 * (i + 1)) ws =
+    let further : 5 * i + 5 ≡ 5 * suc i = omega arith in
+    let rest : drop (5 * i + 5) now ≡ drop (5 * suc i) ws =
     sym (drop-drop 5 (5 * i) now) ∙ ap (drop 5) behind ∙ drop-drop 5 (5 * i) ws ∙ ap (λ (k : ℕ). drop k ws) further in
-    let more : tableWords (take i ls) ++ five (linkWords (getD ls i d)) ≡ tableWords (take (i + 1) ls) =
-    sym (table-more ls i d h) ∙ ap (λ (k : ℕ). tableWords (take k ls)) (sym (add-one i)) in
     ap (λ (us : List ℕ). us ++ five (linkWords (getD ls i d)) ++ drop (5 * i + 5) now) front
-    ∙ ap (λ (us : List ℕ). us ++ drop (5 * i + 5) now) more
-    ∙ ap (λ (us : List ℕ). tableWords (take (i + 1) ls) ++ us) rest
-
--- the loaded table is full
-pub length-loaded : (ws : List ℕ) → length (loaded ws) ≡ 64
-unfolding loaded
-length-loaded ws =
-    let few = links-few (length ws) in
-    rw (length-append, length-links (linksIn (length ws)) ws, length-replicate) (omega (arith, few .0))
+    ∙ ap (λ (us : List ℕ). us ++ drop (5 * i + 5) now) (sym (table-more ls i d h))
+    ∙ ap (λ (us : List ℕ). tableWords (take (suc i) ls) ++ us) rest
 
 -- what is told has at most five words
 pub told-few : (a : Answer) → length (toldWords a) ≤ 5

@@ -1,12 +1,12 @@
 -- A table of links as words of 64 bits, five a link, one behind the other: which word holds what, and what links any words tell: those that
 -- pack to just these words, or nobody's.
 -- Assumes nothing.
-use Prim.Native.Nat.{ℕ, zero, suc, _*_, _-_, _/_}
+use Prim.Native.Nat.{ℕ, zero, suc, _*_, _/_, min}
 use mathlib.Core.Bool.{Bool, cond}
 use mathlib.Core.List.{List, [], _∷_, _++_}
 use lib.Dec.{eqb, leb}
-use lib.ListN.{length, take, drop, getD, replicate}
-use Rattle.links.specs.Link.{off, idle}
+use lib.ListN.{length, take, drop, getD}
+use Rattle.links.specs.Link.{off}
 use Rattle.links.specs.declared.Link.{Link}
 use Rattle.links.specs.declared.State.{State}
 use Rattle.links.specs.declared.State.the-variants.{Idle, Waiting, Registered}
@@ -84,10 +84,14 @@ linksIn words = cond (leb (words / 5) 64) (words / 5) 0
 abbrev pub linksAt : List ℕ → List Link
 linksAt ws = linksOf (linksIn (length ws)) ws
 
--- the links in the words, and idle ones behind them
-unfoldable pub loaded : List ℕ → List Link
-loaded ws = linksAt ws ++ replicate (64 - linksIn (length ws)) idle
+-- how many links so many words and so many links both have room for
+unfoldable pub roomOf : ℕ → ℕ → ℕ
+roomOf words links = min (words / 5) links
 
--- as many links as the words have room for, and the words behind them
-unfoldable pub stored : List Link → List ℕ → List ℕ
-stored ls ws = tableWords (take (linksIn (length ws)) ls) ++ drop (5 * linksIn (length ws)) ws
+-- the links in the words over others, as many as both have room for; those behind them stay
+unfoldable pub loaded : List ℕ → List Link → List Link
+loaded ws xs = let n = roomOf (length ws) (length xs) in linksOf n ws ++ drop n xs
+
+-- the first n of links over words, as many as both have room for; the words behind them stay
+unfoldable pub stored : List Link → ℕ → List ℕ → List ℕ
+stored xs n ws = let k = min n (roomOf (length ws) (length xs)) in tableWords (take k xs) ++ drop (5 * k) ws

@@ -1,10 +1,10 @@
 // A head, its table of links and its answer as words of 64 bits, which is how the C face keeps them in the caller's memory.
 ghost use mathlib.Core.Path.{_≡_};
-ghost use Prim.Native.Nat.{_+_, _≤_};
+ghost use Prim.Native.Nat.{_+_, _≤_, min};
 ghost use mathlib.Core.List.{_++_};
 ghost use lib.ListN.{length, take, drop};
 ghost use Rattle.headwords.specs.Head.{windowWords, windowOf, headWords, headOf, headIn};
-ghost use Rattle.headwords.specs.Table.{stateWord, stateOf, linkWords, linkOf, noLink, five, linkIn, wordsAt, linksIn, loaded, stored};
+ghost use Rattle.headwords.specs.Table.{stateWord, stateOf, linkWords, linkOf, noLink, five, linkIn, wordsAt, linksIn, roomOf, loaded, stored};
 ghost use Rattle.headwords.specs.Told.{kindWord, toldWords};
 ghost use Rattle.words.specs.Words.{laid};
 use clock::Timer;
@@ -219,7 +219,7 @@ fn link_at(words: &[u64], at: usize) -> Link
     link_in(w)
 }
 
-fn put_link(l: Link, words: &mut [u64], at: usize)
+fn put_link(words: &mut [u64], at: usize, l: Link)
     requires { ⌜ at + 5 ≤ length (now words) ⌝ }
     ensures { λ _. ⌜ now (words .exit) ≡ take at (now (words .entry)) ++ five (linkWords l) ++ drop (at + 5) (now (words .entry)) ⌝ }
 {
@@ -242,30 +242,48 @@ pub fn links_in(words: usize) -> usize
     0
 }
 
-// The links in the words, and idle ones behind them.
-pub fn load_links(words: &[u64]) -> [Link; 64]
-    ensures { λ r. ⌜ r ≡ loaded (now (words .entry)) ⌝ }
+// How many links both have room for.
+fn both(words: usize, links: usize) -> usize
+    ensures { λ r. ⌜ r ≡ roomOf words links ⌝ }
 {
-    let n = links_in(words.len());
-    let mut out = [Link::idle(); 64];
-    let mut i = 0;
-    while i < n {
-        let l = link_at(words, LINK * i);
-        out[i] = l;
-        i += 1;
+    let held = words / LINK;
+    if held < links {
+        return held;
     }
-    out
+    links
 }
 
-// As many links as the words have room for; words behind them stay.
-pub fn store_links(links: [Link; 64], words: &mut [u64])
-    ensures { λ _. ⌜ now (words .exit) ≡ stored links (now (words .entry)) ⌝ }
+// The first n, as far as both have room for them.
+fn turns(n: usize, words: usize, links: usize) -> usize
+    ensures { λ r. ⌜ r ≡ min n (roomOf words links) ⌝ }
 {
-    let n = links_in(words.len());
+    let most = both(words, links);
+    if n < most {
+        return n;
+    }
+    most
+}
+
+// The links in the words over the lent ones, as many as both have room for; links behind them stay.
+pub fn load_links(words: &[u64], links: &mut [Link])
+    ensures { λ _. ⌜ now (links .exit) ≡ loaded (now (words .entry)) (now (links .entry)) ⌝ }
+{
+    let n = both(words.len(), links.len());
     let mut i = 0;
     while i < n {
-        let l = links[i];
-        put_link(l, words, LINK * i);
+        links[i] = link_at(words, LINK * i);
+        i += 1;
+    }
+}
+
+// The first n links, as far as the words have room for them; words behind them stay.
+pub fn store_links(links: &[Link], n: usize, words: &mut [u64])
+    ensures { λ _. ⌜ now (words .exit) ≡ stored (now (links .entry)) n (now (words .entry)) ⌝ }
+{
+    let n = turns(n, words.len(), links.len());
+    let mut i = 0;
+    while i < n {
+        put_link(words, LINK * i, links[i]);
         i += 1;
     }
 }

@@ -13,8 +13,8 @@ is-lent-requires c κs = search needs
 links-in-requires : tie.Need-links-in-requires
 links-in-requires c κs = search needs
 
-clear-requires : tie.Need-clear-requires
-clear-requires c κs = rw (c .before .links-in .ensures) (links-few _ .0)
+clear-many-requires : tie.Need-clear-many-requires
+clear-many-requires c κs = rw (c .before .links-in .ensures) (links-few _ .0)
 
 lay-begun-requires : tie.Need-lay-begun-requires
 lay-begun-requires c κs = search needs
@@ -38,7 +38,7 @@ returns c =
     (c .before .before .before .before .before .before .before .before .before .before .before .before .before .before .is-lent .ensures)
     (c .before .before .before .before .before .before .before .before .before .before .before .before .before .if1 .taken)
     (c .before .before .before .before .before .before .before .before .before .before .before .before .links-in .ensures)
-    (c .before .before .before .before .before .before .before .before .before .before .clear .ensures)
+    (c .before .before .before .before .before .before .before .before .before .before .clear-many .ensures)
     (c .before .before .before .before .before .before .lay-begun .ensures)
     (c .before .before .tell .ensures)
 
@@ -52,7 +52,7 @@ begun-spec =
     (tie.spec
     is-lent-requires
     links-in-requires
-    clear-requires
+    clear-many-requires
     lay-begun-requires
     tell-requires
     same-length

@@ -16,8 +16,8 @@ load-head-requires c κs = search needs
 links-in-requires : tie.Need-links-in-requires
 links-in-requires c κs = search needs
 
-lend-requires : tie.Need-lend-requires
-lend-requires c κs = rw (c .before .before .links-in .ensures) (links-few _ .0)
+lend-all-requires : tie.Need-lend-all-requires
+lend-all-requires c κs = rw (c .before .before .links-in .ensures) (links-few _ .0)
 
 keep-head-requires : tie.Need-keep-head-requires
 keep-head-requires c κs = search needs
@@ -45,7 +45,7 @@ returns c =
     (c .before .before .before .before .before .before .before .before .before .before .before .before .before .before .before .before .before .before .if1 .taken)
     (c .before .before .before .before .before .before .before .before .before .before .before .before .before .before .before .before .load-head .ensures)
     (c .before .before .before .before .before .before .before .before .before .before .before .before .before .before .before .links-in .ensures)
-    (c .before .before .before .before .before .before .before .before .before .before .before .before .lend .ensures)
+    (c .before .before .before .before .before .before .before .before .before .before .before .before .lend-all .ensures)
     (c .before .before .before .before .before .before .keep-head .ensures)
     (c .before .before .tell .ensures)
 
@@ -60,7 +60,7 @@ served-spec =
     is-lent-requires
     load-head-requires
     links-in-requires
-    lend-requires
+    lend-all-requires
     keep-head-requires
     tell-requires
     same-length
