@@ -1,17 +1,15 @@
 -- A head or a link that is packed into words and unpacked is the same, whatever it holds, as long as each number fits its type; and so is a
 -- table of links.
 -- Assumes nothing.
-use Prim.Native.Nat.{ℕ, _^_, _<_}
+use Prim.Native.Nat.{ℕ}
 use mathlib.Core.Path.{_≡_, refl, ap, _∙_}
 use mathlib.Core.Bool.{Bool, true, cond}
 use mathlib.Core.List.{List, [], _∷_, _++_}
 use lib.ListN.{length}
-use Rattle.clock.specs.declared.Timer.{Timer}
 use Rattle.head.specs.declared.Head.{Head}
 use Rattle.head.specs.declared.Window.{Window}
 use Rattle.head.specs.declared.Window.the-variants.{Idle, Before, Inside}
 use Rattle.headwords.specs.Head.{windowWords, windowOf, headWords, headOf, isHead, nobody, headIn}
-use Rattle.fields.specs.Fields.{timerOf}
 use Rattle.headwords.specs.Table.{stateWord, stateOf, linkWords, linkOf, five, isLink, noLink, linkIn, tableWords, linksOf}
 use Rattle.links.specs.declared.Link.{Link}
 use Rattle.links.specs.declared.State.{State}
@@ -19,10 +17,7 @@ use Rattle.links.specs.declared.State.the-variants as Of
 use Rattle.words.specs.Laws.{same-self}
 use Rattle.words.specs.Words.{same}
 use Rattle.facelaws.specs.Head.{WindowFits, HeadFits, LinkFits, LinksFit}
-use Rattle.facelaws.proofs.RoundTrip.{narrow-is, quanta-back}
-
-timer-back : (t : Timer) → t .left < 2 ^ 32 → timerOf (t .left) ≡ t
-timer-back t h = rw (narrow-is (t .left) h)
+use Rattle.facelaws.proofs.RoundTrip.{narrow-is, timer-back, quanta-back}
 
 window-back : (w : Window) → WindowFits w → windowOf (windowWords w) ≡ w
 unfolding windowOf
