@@ -2,15 +2,17 @@
 -- Assumes nothing.
 use Prim.Native.Nat.{ℕ}
 use mathlib.Core.Bool.{Bool, cond, _&&_}
-use mathlib.Core.List.{List, _++_}
+use mathlib.Core.List.{List, [], _∷_, _++_}
 use denote.Ref.{RefT}
 use lib.Dec.{eqb, leb, ltb}
 use lib.ListN.{length, drop, replicate}
 use Rattle.boxwords.specs.Box.{boxWords, boxIn}
 use Rattle.boxwords.specs.Told.{toldWords}
+use Rattle.floorbox.specs.Advance.{advanceOf}
 use Rattle.floorbox.specs.Answer.{refused}
 use Rattle.floorbox.specs.Box.{freshOf}
 use Rattle.floorbox.specs.Hear.{hearOf}
+use Rattle.floorbox.specs.Pass.{quietOf}
 use Rattle.floorbox.specs.Send.{sendOf}
 use Rattle.floorbox.specs.declared.Answer.{Answer}
 use Rattle.floorbox.specs.declared.FloorBox.{FloorBox}
@@ -95,6 +97,27 @@ unfoldable pub boxCall : (FloorBox → Answer) → List ℕ → List ℕ → Lis
 boxCall f block frames reply =
     cond (isLent (length block) (length frames) (length reply)) (settled (f (boxAt block)) block frames reply)
     (left 100 block frames reply)
+
+-- what an advance leaves: what a call does, and how many ticks were made
+pub record AdvanceLeft : Type 0 where
+  pub call : Left
+  pub made : List ℕ
+
+abbrev pub advanceLeft : Left → List ℕ → AdvanceLeft
+advanceLeft l made = record { call = l; made = made }
+
+-- an advance is that of the box in the block, and the first word of `made` the number of ticks made; where too little is lent it is 100, and
+-- nothing is touched
+unfoldable pub advanceCall : ℕ → List ℕ → List ℕ → List ℕ → List ℕ → AdvanceLeft
+advanceCall n block frames reply made =
+    let a = advanceOf (boxAt block) n in
+    cond (isLent (length block) (length frames) (length reply) && leb 1 (length made))
+    (advanceLeft (settled (a .answer) block frames reply) (laid (a .made ∷ []) made))
+    (advanceLeft (left 100 block frames reply) made)
+
+-- how many ticks of the box in the block are sure to be done and to hand out nothing; none where the block is too short
+unfoldable pub untilCall : List ℕ → ℕ
+untilCall block = cond (leb 29 (length block)) (quietOf (boxAt block)) 0
 
 -- none where what goes next is empty; the control frame, or where there is none the data frame
 unfoldable pub nextCall : List ℕ → RefT (List ℕ) → RefT (List ℕ) → ℕ

@@ -32,6 +32,18 @@ use Rattle.clock.proofs.Timer.runs.Kinds as runs-kinds
 use Rattle.clock.proofs.Timer.runs.Reads as runs-reads
 use Rattle.clock.proofs.Count.start_in_range.Kinds as start-in-range-kinds
 use Rattle.clock.proofs.Count.start_in_range.Reads as start-in-range
+use Rattle.clock.proofs.least.Kinds as least-kinds
+use Rattle.clock.proofs.least.Reads as least-reads
+use Rattle.clock.proofs.in_reach.Kinds as in-reach-kinds
+use Rattle.clock.proofs.in_reach.Reads as in-reach-reads
+use Rattle.clock.proofs.passing.Kinds as passing-kinds
+use Rattle.clock.proofs.passing.Reads as passing-reads
+use Rattle.clock.proofs.Count.later.Kinds as later-kinds
+use Rattle.clock.proofs.Count.later.Reads as later-reads
+use Rattle.clock.proofs.Timer.passed.Kinds as passed-kinds
+use Rattle.clock.proofs.Timer.passed.Reads as passed-reads
+use Rattle.clock.proofs.Timer.quiet.Kinds as quiet-kinds
+use Rattle.clock.proofs.Timer.quiet.Reads as quiet-reads
 
 pub needed-settles : Settles 0 needed-kinds.ps needed-kinds.r needed-reads.Post
 needed-settles κs a e x y p q = p ∙ sym q
@@ -77,3 +89,21 @@ runs-settles κs a e x y p q = p ∙ sym q
 
 pub start-in-range-settles : Settles 0 start-in-range-kinds.ps start-in-range-kinds.r start-in-range.Post
 start-in-range-settles κs a e x y p q = p ∙ sym q
+
+pub least-settles : Settles 0 least-kinds.ps least-kinds.r least-reads.Post
+least-settles κs a e x y p q = p ∙ sym q
+
+pub in-reach-settles : Settles 0 in-reach-kinds.ps in-reach-kinds.r in-reach-reads.Post
+in-reach-settles κs a e x y p q = p ∙ sym q
+
+pub passing-settles : Settles 0 passing-kinds.ps passing-kinds.r passing-reads.Post
+passing-settles κs a e x y p q = p ∙ sym q
+
+pub later-settles : Settles 0 later-kinds.ps later-kinds.r later-reads.Post
+later-settles κs a e x y p q = p ∙ sym q
+
+pub passed-settles : Settles 0 passed-kinds.ps passed-kinds.r passed-reads.Post
+passed-settles κs a e x y p q = p ∙ sym q
+
+pub quiet-settles : Settles 0 quiet-kinds.ps quiet-kinds.r quiet-reads.Post
+quiet-settles κs a e x y p q = p ∙ sym q

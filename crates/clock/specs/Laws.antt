@@ -2,19 +2,20 @@
 -- Assumes nothing.
 use Prim.Native.Nat.{ℕ, suc, _+_, _-_, _*_, _%_, _^_, _<_, _≤_}
 use mathlib.Core.Path.{_≡_, refl, _∙_, sym, ap}
-use mathlib.Core.Bool.{Bool, true, false, true≢false, false≢true}
+use mathlib.Core.Bool.{Bool, true, false, true≢false, false≢true, and-eq-true-iff}
 use mathlib.Core.Logic.{⊎-elim, _≢_}
 use lib.Dec.{ltb, leb, eqb}
 use lib.IntN.{ℤ, pos, negsuc}
 use native.Mathlib.Omega.{arith}
-use borrow.Author.Tests.{lt-ltb, le-ltb, lt-leb, le-leb, leb-true, ne-eqb, eqb-false}
+use borrow.Author.Tests.{lt-ltb, le-ltb, lt-leb, le-leb, leb-true, eq-eqb, ne-eqb, eqb-true, eqb-false}
 use Rattle.laws.specs.Cases.{cut}
+use Rattle.clock.specs.declared.Count.{Count}
 use Rattle.clock.specs.declared.Reach.{Reach}
 use Rattle.clock.specs.declared.Reach.the-variants.{Past, Ahead}
 use Rattle.clock.specs.declared.Timer.{Timer}
-use Rattle.clock.specs.Counts.{gap, distance, isPast, nearer, reach}
-use Rattle.clock.specs.Numbers.{furthest, startInRange, quantaOf}
-use Rattle.clock.specs.Timers.{runs, ticked}
+use Rattle.clock.specs.Counts.{nextOf, laterOf, gap, distance, isPast, nearer, reach}
+use Rattle.clock.specs.Numbers.{furthest, furthestAdvance, inReach, startInRange, quantaOf}
+use Rattle.clock.specs.Timers.{off, runs, ticked, passedOf, quietOf}
 
 -- what wraps back to a when b is added is the gap from b to a
 pub gap-of : (a b r : ℕ) → a < 2 ^ 32 → b < 2 ^ 32 → r < 2 ^ 32 → (r + b) % 2 ^ 32 ≡ a → r ≡ gap b a
@@ -153,3 +154,94 @@ ticked-runs t n h e =
     let r = runs-in t n h in
     let f : t .left ≢ 1 = eqb-false (t .left) 1 (rw (ticked-on t (r .0)) at e) in
     rw (ticked-on t (r .0)) (runs-of (record { left = t .left - 1 }) n (omega arith) (omega arith))
+
+-- what a timer's quiet ticks are, stopped and running
+pub quiet-off : (t : Timer) → t .left ≡ 0 → quietOf t ≡ furthestAdvance
+unfolding quietOf
+quiet-off t h = rw (eq-eqb (t .left) 0 h)
+
+pub quiet-on : (t : Timer) → 1 ≤ t .left → quietOf t ≡ t .left - 1
+unfolding quietOf
+quiet-on t h = rw (ne-eqb (t .left) 0 (omega arith))
+
+pub passed-left : (t : Timer) (k : ℕ) → passedOf t k .left ≡ t .left - k
+unfolding passedOf
+passed-left t k = refl
+
+pub passed-out : (t : Timer) (k : ℕ) → t .left < k → record { left = 0 } ≡ passedOf t k
+unfolding passedOf
+passed-out t k h =
+    let n : t .left - k ≡ 0 = omega arith in
+    rw n
+
+pub passed-none : (t : Timer) → passedOf t 0 ≡ t
+unfolding passedOf
+passed-none t =
+    let z : t .left - 0 ≡ t .left = omega arith in
+    rw z
+
+-- a stopped timer is passed as it is
+pub passed-off : (t : Timer) (k : ℕ) → off t ≡ true → passedOf t k ≡ t
+unfolding off passedOf
+passed-off t k h =
+    let z : t .left ≡ 0 = eqb-true (t .left) 0 h in
+    let n : t .left - k ≡ t .left = omega arith in
+    rw n
+
+-- a tick that comes before the one at which a timer rings is passed
+pub ticked-quiet : (t : Timer) → 1 ≤ quietOf t → ticked t ≡ record { timer = passedOf t 1; rang = false }
+unfolding ticked passedOf
+ticked-quiet t h =
+    ⊎-elim (λ (k : t .left < 1).
+    let z : t .left ≡ 0 = omega arith in
+    rw z)
+    (λ (k : 1 ≤ t .left).
+    let q = quiet-on t k in
+    rw (ne-eqb (t .left) 0 (omega arith), ne-eqb (t .left) 1 (omega arith)))
+    (cut (t .left) 1)
+
+-- a timer that runs is still running
+pub passed-runs : (t : Timer) (n k : ℕ) → runs t n ≡ true → k ≤ quietOf t → runs (passedOf t k) n ≡ true
+passed-runs t n k h q =
+    let r = runs-in t n h in
+    let e = quiet-on t (r .0) in
+    let l = passed-left t k in
+    runs-of (passedOf t k) n (omega arith) (omega arith)
+
+pub passed-joined : (t : Timer) (k : ℕ) → passedOf (passedOf t 1) k ≡ passedOf t (suc k)
+unfolding passedOf
+passed-joined t k =
+    let n : t .left - 1 - k ≡ t .left - suc k = omega arith in
+    rw n
+
+-- and has one less to come
+pub quiet-falls : (t : Timer) → 1 ≤ quietOf t → quietOf t ≤ suc (quietOf (passedOf t 1))
+quiet-falls t h =
+    let l = passed-left t 1 in
+    ⊎-elim (λ (k : t .left < 1).
+    let a = quiet-off t (omega arith) in
+    let b = quiet-off (passedOf t 1) (omega arith) in
+    omega arith)
+    (λ (k : 1 ≤ t .left).
+    let a = quiet-on t k in
+    let b = quiet-on (passedOf t 1) (omega arith) in
+    omega arith)
+    (cut (t .left) 1)
+
+-- what an advance may make
+pub reach-parts : (n : ℕ) → inReach n ≡ true → (1 ≤ n) × (n ≤ furthestAdvance)
+unfolding inReach
+reach-parts n h =
+    let p = and-eq-true-iff (leb 1 n) (leb n furthestAdvance) .0 h in
+    (leb-true 1 n (p .0), leb-true n furthestAdvance (p .1))
+
+-- the counter
+pub later-one : (c : Count) → nextOf c ≡ laterOf c 1
+unfolding nextOf laterOf
+later-one c = refl
+
+pub later-joined : (c : Count) (k : ℕ) → laterOf (laterOf c 1) k ≡ laterOf c (suc k)
+unfolding laterOf
+later-joined c k =
+    let n : ((c .0 + 1) % 2 ^ 32 + k) % 2 ^ 32 ≡ (c .0 + suc k) % 2 ^ 32 = omega arith in
+    rw n

@@ -27,6 +27,14 @@ wait = 3125000
 abbrev pub furthest : ℕ
 furthest = 62500000
 
+-- a call advances by at most 65,536 ticks
+abbrev pub furthestAdvance : ℕ
+furthestAdvance = 65536
+
+-- and by at least one
+unfoldable pub inReach : ℕ → Bool
+inReach n = leb 1 n && leb n furthestAdvance
+
 -- a start is in range if its distance from now is in 0 .. 62,500,000
 unfoldable pub startInRange : ℕ → ℕ → Bool
 startInRange now start = leZ (pos 0) (distance now start) && leZ (distance now start) (pos furthest)

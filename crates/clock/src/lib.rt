@@ -1,8 +1,40 @@
 // The clock: counts, lengths and timers. Document 01, "Counts and lengths" and "Numbers".
+ghost use Prim.Native.Nat.{_-_, min};
 ghost use mathlib.Core.Path.{_≡_};
-ghost use Rattle.clock.specs.Counts.{nextOf, distance, isPast, nearer, reach, driftOf, roundTrip};
-ghost use Rattle.clock.specs.Numbers.{startInRange, needed};
-ghost use Rattle.clock.specs.Timers.{off, runs, ticked};
+ghost use Rattle.clock.specs.Counts.{nextOf, laterOf, distance, isPast, nearer, reach, driftOf, roundTrip};
+ghost use Rattle.clock.specs.Numbers.{startInRange, inReach, needed};
+ghost use Rattle.clock.specs.Timers.{off, runs, ticked, passedOf, quietOf};
+
+// The smaller of two numbers.
+pub fn least(a: u32, b: u32) -> u32
+    ensures { λ r. ⌜ r ≡ min a b ⌝ }
+{
+    if a < b {
+        return a;
+    }
+    b
+}
+
+// A call advances by 1 to 65,536 ticks.
+pub fn in_reach(n: u64) -> bool
+    ensures { λ r. ⌜ r ≡ inReach n ⌝ }
+{
+    (1 <= n) & (n <= Timer::FURTHEST_ADVANCE as u64)
+}
+
+// How many of n ticks are passed before the last one, which is made: no more than are quiet.
+pub fn passing(quiet: u32, n: u64) -> u32
+    ensures { λ r. ⌜ r ≡ min quiet (n - 1) ⌝ }
+{
+    if n == 0 {
+        return 0;
+    }
+    let most = n - 1;
+    if (quiet as u64) < most {
+        return quiet;
+    }
+    most as u32
+}
 
 // A reading of the 32-bit counter.
 pub struct Count(pub u32);
@@ -47,6 +79,13 @@ impl Count {
         ensures { λ r. ⌜ r ≡ nextOf self ⌝ }
     {
         Count(std::num::wrapping_add_u32(self.0, 1))
+    }
+
+    // So many quanta later.
+    pub fn later(self, k: u32) -> Count
+        ensures { λ r. ⌜ r ≡ laterOf self k ⌝ }
+    {
+        Count(std::num::wrapping_add_u32(self.0, k))
     }
 
     // The distance from this count to another, in -2^31 .. 2^31 - 1.
@@ -141,6 +180,9 @@ impl Timer {
     // Wait for REGISTER and wait for REGISTER_ACK.
     pub const WAIT: Quanta = Quanta(3_125_000);
 
+    // The most ticks that a call advances by.
+    pub const FURTHEST_ADVANCE: u32 = 65_536;
+
     pub fn stopped() -> Timer
         ensures { λ r. ⌜ r ≡ record { left = 0 } ⌝ }
     {
@@ -174,6 +216,28 @@ impl Timer {
             timer: Timer { left: left - 1 },
             rang: left == 1,
         }
+    }
+
+    // After k ticks, at none of which it rings.
+    pub fn passed(self, k: u32) -> Timer
+        ensures { λ r. ⌜ r ≡ passedOf self k ⌝ }
+    {
+        let left = self.left;
+        if left < k {
+            return Timer { left: 0 };
+        }
+        Timer { left: left - k }
+    }
+
+    // How many ticks come before the one at which it rings; a stopped timer never rings.
+    pub fn quiet(self) -> u32
+        ensures { λ r. ⌜ r ≡ quietOf self ⌝ }
+    {
+        let left = self.left;
+        if left == 0 {
+            return Timer::FURTHEST_ADVANCE;
+        }
+        left - 1
     }
 
     pub fn off(self) -> bool

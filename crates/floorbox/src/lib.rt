@@ -1,8 +1,12 @@
 // The floor box: document 01's box, with an own address, and its calls. Each answers every input.
 ghost use mathlib.Core.Path.{_≡_};
+ghost use Rattle.frame.specs.declared.Reply.the-variants.{Done};
 ghost use Rattle.floorbox.specs.Answer.{bare, refused, messageOf, framed, accepted};
 ghost use Rattle.writer.specs.Write.{writeOf};
 ghost use Rattle.floorbox.specs.Box.{soundOf, freshOf, registerOf, deregisterOf, tickOf};
+ghost use Rattle.laws.specs.Jump.{ticks};
+ghost use Rattle.floorbox.specs.Advance.{isDone, isSilent, again, out, advanceOf};
+ghost use Rattle.floorbox.specs.Pass.{quietOf, passedOf, leapOf};
 ghost use Rattle.floorbox.specs.Hear.{isDiscovery, isFor, heardOf, hearOf};
 ghost use Rattle.floorbox.specs.Send.{remaining, fitsIn, sendOf};
 use clock::Count;
@@ -31,6 +35,12 @@ pub struct Answer {
     pub notices: Notices,
 }
 
+// An advance: the answer of the last tick made, or a refusal, and how many ticks were made.
+pub struct Advanced {
+    pub answer: Answer,
+    pub made: u64,
+}
+
 // The frames of a box go from its own address to 01-80-C2-00-00-01 with its count.
 fn written(source: Address, now: Count, body: Body) -> [u8; 60]
     ensures { λ r. ⌜ r ≡ writeOf (messageOf source now body) .octets ⌝ }
@@ -52,6 +62,36 @@ fn frame(source: Address, now: Count, frames: Frames, sent: Sent) -> Frames
     match sent {
         Sent::Nothing => frames,
         Sent::Is(body) => frames.and(written(source, now, body)),
+    }
+}
+
+impl Answer {
+    fn is_done(self) -> bool
+        ensures { λ r. ⌜ r ≡ isDone self ⌝ }
+    {
+        let reply = self.reply;
+        reply.number() == 0
+    }
+
+    // Neither a frame nor a notice.
+    fn is_silent(self) -> bool
+        ensures { λ r. ⌜ r ≡ isSilent self ⌝ }
+    {
+        let frames = self.frames;
+        let notices = self.notices;
+        let first = notices.first;
+        (frames.number == 0) & first.is_nothing()
+    }
+
+    // The answer of the last of k quiet ticks after this one.
+    fn leap(self, k: u32) -> Answer
+        ensures { λ r. ⌜ r ≡ leapOf k self ⌝ }
+    {
+        if k == 0 {
+            return self;
+        }
+        let b = self.next;
+        b.passed(k).bare(Reply::Done)
     }
 }
 
@@ -217,6 +257,77 @@ impl FloorBox {
             return self.refused(Reply::Window);
         }
         self.accepted(0, step)
+    }
+
+    // How many ticks are sure to be done and to hand out nothing.
+    fn quiet(self) -> u32
+        ensures { λ r. ⌜ r ≡ quietOf self ⌝ }
+    {
+        let processes = self.processes;
+        if self.sound() {
+            return processes.quiet();
+        }
+        0
+    }
+
+    // After k such ticks, at least one.
+    fn passed(self, k: u32) -> FloorBox
+        ensures { λ r. ⌜ r ≡ passedOf self k ⌝ }
+    {
+        let address = self.address;
+        let before = self.processes;
+        let processes = before.passed(k);
+        FloorBox { address, processes }
+    }
+
+    // Single ticks, at most n: those that are sure to be silent are passed at once.
+    fn ticks(self, n: u64) -> Advanced
+        ensures { λ r. ⌜ r ≡ ticks again isDone isSilent out n (bare self Done) 0 ⌝ }
+    {
+        let mut last = self.bare(Reply::Done);
+        let mut made: u64 = 0;
+        while made < n {
+            let at = last.next;
+            let k = clock::passing(at.quiet(), n - made);
+            let before = last.leap(k);
+            let there = before.next;
+            let r = there.tick();
+            let passed = made + k as u64;
+            if !r.is_done() {
+                if passed == 0 {
+                    return Advanced { answer: r, made: 0 };
+                }
+                return Advanced {
+                    answer: before,
+                    made: passed,
+                };
+            }
+            made = passed + 1;
+            if !r.is_silent() {
+                return Advanced { answer: r, made };
+            }
+            last = r;
+        }
+        Advanced { answer: last, made }
+    }
+
+    // So many ticks in one call, up to the first that hands something out.
+    pub fn advance(self, n: u64) -> Advanced
+        ensures { λ r. ⌜ r ≡ advanceOf self n ⌝ }
+    {
+        if !self.sound() {
+            return Advanced {
+                answer: self.refused(Reply::Unsound),
+                made: 0,
+            };
+        }
+        if !clock::in_reach(n) {
+            return Advanced {
+                answer: self.refused(Reply::Grant),
+                made: 0,
+            };
+        }
+        self.ticks(n)
     }
 
     // Whether a frame of n octets fits the window's remaining ticks.

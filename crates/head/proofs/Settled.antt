@@ -18,6 +18,10 @@ use Rattle.head.proofs.Head.tick.Kinds as tick-kinds
 use Rattle.head.proofs.Head.tick.Reads as tick
 use Rattle.head.proofs.Head.sound.Kinds as sound-kinds
 use Rattle.head.proofs.Head.sound.Reads as sound
+use Rattle.head.proofs.Window.after.Kinds as window-after-kinds
+use Rattle.head.proofs.Window.after.Reads as window-after-reads
+use Rattle.head.proofs.Head.after.Kinds as after-kinds
+use Rattle.head.proofs.Head.after.Reads as after-reads
 
 pub fits-settles : Settles 0 fits-kinds.ps fits-kinds.r fits.Post
 fits-settles κs a e x y p q = p ∙ sym q
@@ -42,3 +46,9 @@ tick-settles κs a e x y p q = p ∙ sym q
 
 pub sound-settles : Settles 0 sound-kinds.ps sound-kinds.r sound.Post
 sound-settles κs a e x y p q = p ∙ sym q
+
+pub window-after-settles : Settles 0 window-after-kinds.ps window-after-kinds.r window-after-reads.Post
+window-after-settles κs a e x y p q = p ∙ sym q
+
+pub after-settles : Settles 0 after-kinds.ps after-kinds.r after-reads.Post
+after-settles κs a e x y p q = p ∙ sym q

@@ -3,12 +3,13 @@
 -- Assumes nothing.
 use Prim.Native.Nat.{ℕ}
 use mathlib.Core.Bool.{Bool, cond, _&&_}
-use mathlib.Core.List.{List}
+use mathlib.Core.List.{List, [], _∷_}
 use lib.Dec.{eqb, leb}
 use lib.ListN.{length, replicate}
 use Rattle.frame.specs.Card.{numberOf}
 use Rattle.frame.specs.declared.Address.{Address}
 use Rattle.frame.specs.declared.Reply.{Reply}
+use Rattle.head.specs.Head.{soundOf}
 use Rattle.head.specs.declared.Head.{Head}
 use Rattle.headwords.specs.Head.{headWords, headIn}
 use Rattle.headwords.specs.Table.{tableWords, linksAt}
@@ -19,6 +20,7 @@ use Rattle.reader.specs.Decode.{readOf}
 use Rattle.serving.specs.Fresh.{Freshly, isDone, freshOf}
 use Rattle.serving.specs.Serve.{Served, serveOf}
 use Rattle.serving.specs.declared.Answer.{Answer}
+use Rattle.survey.specs.Facts.{soundTable, quietAll}
 use Rattle.words.specs.Words.{laid}
 
 -- the number that a call returns, and what then stands in the head's block, in the table, in the output and in the reply
@@ -83,6 +85,30 @@ unfoldable pub servedOf : Request → List ℕ → List ℕ → List ℕ → Lis
 servedOf r head links output reply =
     cond (isLent (length head) (length reply)) (handed (serveOf (headAt head) (linksAt links) r output) head links reply)
     (left 100 head links output reply)
+
+-- what an advance leaves: what a call does, and how many ticks were made
+pub record AdvanceLeft : Type 0 where
+  pub call : Left
+  pub made : List ℕ
+
+abbrev pub advanceLeft : Left → List ℕ → AdvanceLeft
+advanceLeft l made = record { call = l; made = made }
+
+-- an advance is the core's too, and the first word of `made` the number of ticks made
+unfoldable pub advanceCall : ℕ → List ℕ → List ℕ → List ℕ → List ℕ → List ℕ → AdvanceLeft
+advanceCall n head links output reply made =
+    let done = serveOf (headAt head) (linksAt links) (Request.Advance n) output in
+    cond (isLent (length head) (length reply) && leb 1 (length made))
+    (advanceLeft (handed done head links reply) (laid (done .answer .made ∷ []) made))
+    (advanceLeft (left 100 head links output reply) made)
+
+-- how many ticks of a head hand out nothing: those before the first link rings, of what is sound
+unfoldable pub quietOf : Head → List Link → ℕ
+quietOf h xs = cond (soundOf h && soundTable xs) (quietAll xs) 0
+
+-- of the head in the block and the links in the words; none where the block is too short
+unfoldable pub untilCall : List ℕ → List ℕ → ℕ
+untilCall head links = cond (leb 5 (length head)) (quietOf (headAt head) (linksAt links)) 0
 
 -- a refusal of the reader's: nothing is changed, and nothing told
 unfoldable pub refusedOf : Reply → List ℕ → List ℕ → Told

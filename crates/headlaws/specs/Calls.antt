@@ -1,7 +1,7 @@
 -- Document 01, "Reply numbers" and "Each refusal changes nothing": a call of the head is accepted with every test passed, or it is refused
 -- and changes nothing.
 -- Assumes nothing.
-use Prim.Native.Nat.{ℕ}
+use Prim.Native.Nat.{ℕ, _-_, min}
 use mathlib.Core.Path.{_≡_, refl, ap, _∙_}
 use mathlib.Core.Bool.{Bool, true, false, not, _&&_}
 use mathlib.Core.List.{List, [], _∷_}
@@ -11,6 +11,7 @@ use lib.Dec.{eqb, leb}
 use lib.ListN.{length}
 use Rattle.laws.specs.Cases.{either}
 use Rattle.clock.specs.Counts.{roundTrip}
+use Rattle.clock.specs.Numbers.{inReach}
 use Rattle.frame.specs.Card.{Test, _unless_, given, numberOf}
 use Rattle.frame.specs.Tests.{Passed, Each, given-either}
 use Rattle.frame.specs.Ways.{goesToHead}
@@ -32,7 +33,7 @@ use Rattle.survey.specs.declared.Look.{Look}
 use Rattle.table.specs.declared.Event.{Event}
 use Rattle.requests.specs.Client.{fitsLengths, mayOpen, openOf, fitsParty, admitOf, rejectOf, reregisterOf, deregisterOf, gateOf}
 use Rattle.heeding.specs.Hear.{onLink, inState, byParty, heardOf, hearOf}
-use Rattle.judging.specs.Judge.{lookOf, decideOf, isSound, hasRoom, judgeOf}
+use Rattle.judging.specs.Judge.{lookOf, leapt, advanceOf, decideOf, isSound, hasRoom, judgeOf}
 use Rattle.plans.specs.Plan.{refused, accepted, sending}
 use Rattle.plans.specs.declared.Plan.{Plan}
 use Rattle.judging.specs.declared.Request.{Request}
@@ -73,6 +74,7 @@ tests (Request.Hear link m) h f =
     ∷ Range unless fitsMessage m
     ∷ []
 tests Request.Tick h f = []
+tests (Request.Advance n) h f = Grant unless inReach n ∷ []
 
 -- what a request does once they are passed
 abbrev pub planned : Request → Head → Facts → Plan
@@ -87,9 +89,10 @@ planned (Request.Gate link asked) h f = accepted h (Event.At link (Change.Gate (
 planned (Request.Hear link m) h f =
     heardOf (m .body) h (f .link) link (record { 0 = roundTrip (h .count .0) (m .timestamp .0) })
 planned Request.Tick h f = accepted (tickOf h) Event.Tick
+planned (Request.Advance n) h f = leapt h (min (f .quiet) (n - 1))
 
 decide-is : (r : Request) (h : Head) (f : Facts) → decideOf r h f ≡ given (tests r h f) (refused h) (planned r h f)
-unfolding openOf admitOf rejectOf reregisterOf deregisterOf gateOf hearOf
+unfolding openOf admitOf rejectOf reregisterOf deregisterOf gateOf hearOf advanceOf
 decide-is (Request.Open start length sync window) h f = refl
 decide-is (Request.Admit a pending sync) h f = refl
 decide-is (Request.Reject a pending sync) h f = refl
@@ -98,6 +101,7 @@ decide-is (Request.Deregister link) h f = refl
 decide-is (Request.Gate link asked) h f = refl
 decide-is (Request.Hear link m) h f = refl
 decide-is Request.Tick h f = refl
+decide-is (Request.Advance n) h f = refl
 
 -- none of 0, 12 and 13 is given by the tests after the first two
 abbrev Other : Reply → Type 0
@@ -112,6 +116,7 @@ tests-other (Request.Deregister link) h f = omega arith
 tests-other (Request.Gate link asked) h f = omega arith
 tests-other (Request.Hear link m) h f = omega arith
 tests-other Request.Tick h f = tt
+tests-other (Request.Advance n) h f = omega arith
 
 -- what is known of the table
 abbrev pub known : List Link → Request → Facts

@@ -1,19 +1,20 @@
 -- Document 01, "Reply numbers", of the head: 13 and 12 come before all else, then each request's own tests.
 -- Assumes nothing.
-use Prim.Native.Nat.{ℕ, _*_}
+use Prim.Native.Nat.{ℕ, _+_, _-_, _*_, min}
 use mathlib.Core.Bool.{Bool, _&&_}
 use mathlib.Core.List.{[], _∷_}
 use lib.Dec.{leb}
+use Rattle.clock.specs.Numbers.{inReach}
 use Rattle.frame.specs.Card.{_unless_, given}
-use Rattle.frame.specs.declared.Reply.the-variants.{Output, Unsound}
-use Rattle.head.specs.Head.{tickOf, soundOf}
+use Rattle.frame.specs.declared.Reply.the-variants.{Grant, Output, Unsound}
+use Rattle.head.specs.Head.{tickOf, soundOf, afterOf}
 use Rattle.head.specs.declared.Head.{Head}
 use Rattle.survey.specs.declared.Facts.{Facts}
 use Rattle.survey.specs.declared.Look.{Look}
-use Rattle.table.specs.declared.Event.the-variants.{Tick}
+use Rattle.table.specs.declared.Event.the-variants.{Tick, Leap}
 use Rattle.requests.specs.Client.{openOf, admitOf, rejectOf, reregisterOf, deregisterOf, gateOf}
 use Rattle.heeding.specs.Hear.{hearOf}
-use Rattle.plans.specs.Plan.{refused, accepted}
+use Rattle.plans.specs.Plan.{refused, accepted, leaping}
 use Rattle.plans.specs.declared.Plan.{Plan}
 use Rattle.judging.specs.declared.Request.{Request}
 
@@ -30,6 +31,15 @@ lookOf (Request.Deregister link) = lookFor link
 lookOf (Request.Gate link asked) = lookFor link
 lookOf (Request.Hear link m) = lookFor link
 lookOf Request.Tick = lookFor 0
+lookOf (Request.Advance n) = lookFor 0
+
+-- the ticks at which no link rings, and one more
+abbrev pub leapt : Head → ℕ → Plan
+leapt h k = leaping (tickOf (afterOf h k)) (Leap k) (k + 1)
+
+-- 9 unless n is 1 to 65,536
+unfoldable pub advanceOf : Head → ℕ → ℕ → Plan
+advanceOf h quiet n = given (Grant unless inReach n ∷ []) (refused h) (leapt h (min quiet (n - 1)))
 
 -- tick: count, window, then links in order
 abbrev pub decideOf : Request → Head → Facts → Plan
@@ -41,6 +51,7 @@ decideOf (Request.Deregister link) h f = deregisterOf h (f .link) link
 decideOf (Request.Gate link asked) h f = gateOf h (f .link) link asked
 decideOf (Request.Hear link m) h f = hearOf h (f .link) link m
 decideOf Request.Tick h f = accepted (tickOf h) Tick
+decideOf (Request.Advance n) h f = advanceOf h (f .quiet) n
 
 -- 13: unsound state or table
 unfoldable pub isSound : Head → Facts → Bool

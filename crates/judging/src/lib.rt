@@ -1,6 +1,6 @@
 // The head's judgement of a call: the number, and what is to be done, before anything is changed.
 ghost use mathlib.Core.Path.{_≡_};
-ghost use Rattle.judging.specs.Judge.{lookFor, lookOf, decideOf, isSound, hasRoom, judgeOf};
+ghost use Rattle.judging.specs.Judge.{lookFor, lookOf, advanceOf, decideOf, isSound, hasRoom, judgeOf};
 use clock::Count;
 use clock::Quanta;
 use frame::Address;
@@ -47,6 +47,7 @@ pub enum Request {
         message: Message,
     },
     Tick,
+    Advance(u64),
 }
 
 // A link by its number, and nobody's address.
@@ -86,7 +87,19 @@ pub fn look(request: Request) -> Look
         Request::Gate { link, asked: _ } => look_at(link),
         Request::Hear { link, message: _ } => look_at(link),
         Request::Tick => look_at(0),
+        Request::Advance(_) => look_at(0),
     }
+}
+
+// The ticks at which no link rings are passed, and one more is made.
+fn advance(head: Head, quiet: u32, n: u64) -> Plan
+    ensures { λ r. ⌜ r ≡ advanceOf head quiet n ⌝ }
+{
+    if !clock::in_reach(n) {
+        return Plan::refused(head, Reply::Grant);
+    }
+    let k = clock::passing(quiet, n);
+    Plan::leaping(head.after(k).tick(), Event::Leap(k), k as u64 + 1)
 }
 
 fn decide(head: Head, f: Facts, request: Request) -> Plan
@@ -115,6 +128,7 @@ fn decide(head: Head, f: Facts, request: Request) -> Plan
         Request::Gate { link, asked } => requests::gate(head, l, link, asked),
         Request::Hear { link, message } => heeding::hear(head, l, link, message),
         Request::Tick => Plan::accepted(head.tick(), Event::Tick),
+        Request::Advance(n) => advance(head, f.quiet, n),
     }
 }
 

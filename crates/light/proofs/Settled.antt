@@ -12,6 +12,10 @@ use Rattle.light.proofs.Light.sound.Kinds as sound-kinds
 use Rattle.light.proofs.Light.sound.Reads as sound
 use Rattle.light.proofs.Light.tick.Kinds as tick-kinds
 use Rattle.light.proofs.Light.tick.Reads as tick
+use Rattle.light.proofs.Light.passed.Kinds as passed-kinds
+use Rattle.light.proofs.Light.passed.Reads as passed-reads
+use Rattle.light.proofs.Light.quiet.Kinds as quiet-kinds
+use Rattle.light.proofs.Light.quiet.Reads as quiet-reads
 
 pub laser-on-settles : Settles 0 laser-on-kinds.ps laser-on-kinds.r laser-on.Post
 laser-on-settles κs a e x y p q = p ∙ sym q
@@ -27,3 +31,9 @@ sound-settles κs a e x y p q = p ∙ sym q
 
 pub tick-settles : Settles 0 tick-kinds.ps tick-kinds.r tick.Post
 tick-settles κs a e x y p q = p ∙ sym q
+
+pub passed-settles : Settles 0 passed-kinds.ps passed-kinds.r passed-reads.Post
+passed-settles κs a e x y p q = p ∙ sym q
+
+pub quiet-settles : Settles 0 quiet-kinds.ps quiet-kinds.r quiet-reads.Post
+quiet-settles κs a e x y p q = p ∙ sym q

@@ -16,6 +16,10 @@ use Rattle.links.proofs.Link.change.Kinds as change-kinds
 use Rattle.links.proofs.Link.change.Reads as change
 use Rattle.links.proofs.Link.tick.Kinds as tick-kinds
 use Rattle.links.proofs.Link.tick.Reads as tick
+use Rattle.links.proofs.Link.passed.Kinds as passed-kinds
+use Rattle.links.proofs.Link.passed.Reads as passed-reads
+use Rattle.links.proofs.Link.quiet.Kinds as quiet-kinds
+use Rattle.links.proofs.Link.quiet.Reads as quiet-reads
 
 pub still-settles : Settles 0 still-kinds.ps still-kinds.r still.Post
 still-settles κs a e x y p q = p ∙ sym q
@@ -37,3 +41,9 @@ change-settles κs a e x y p q = p ∙ sym q
 
 pub tick-settles : Settles 0 tick-kinds.ps tick-kinds.r tick.Post
 tick-settles κs a e x y p q = p ∙ sym q
+
+pub passed-settles : Settles 0 passed-kinds.ps passed-kinds.r passed-reads.Post
+passed-settles κs a e x y p q = p ∙ sym q
+
+pub quiet-settles : Settles 0 quiet-kinds.ps quiet-kinds.r quiet-reads.Post
+quiet-settles κs a e x y p q = p ∙ sym q

@@ -18,6 +18,10 @@ use Rattle.processes.proofs.Processes.sound.Kinds as sound-kinds
 use Rattle.processes.proofs.Processes.sound.Reads as sound
 use Rattle.processes.proofs.Step.still.Kinds as still-kinds
 use Rattle.processes.proofs.Step.still.Reads as still
+use Rattle.processes.proofs.Processes.quiet.Kinds as quiet-kinds
+use Rattle.processes.proofs.Processes.quiet.Reads as quiet-reads
+use Rattle.processes.proofs.Processes.passed.Kinds as passed-kinds
+use Rattle.processes.proofs.Processes.passed.Reads as passed-reads
 
 pub fresh-settles : Settles 0 fresh-kinds.ps fresh-kinds.r fresh.Post
 fresh-settles κs a e x y p q = p ∙ sym q
@@ -42,3 +46,9 @@ sound-settles κs a e x y p q = p ∙ sym q
 
 pub still-settles : Settles 0 still-kinds.ps still-kinds.r still.Post
 still-settles κs a e x y p q = p ∙ sym q
+
+pub quiet-settles : Settles 0 quiet-kinds.ps quiet-kinds.r quiet-reads.Post
+quiet-settles κs a e x y p q = p ∙ sym q
+
+pub passed-settles : Settles 0 passed-kinds.ps passed-kinds.r passed-reads.Post
+passed-settles κs a e x y p q = p ∙ sym q

@@ -24,6 +24,10 @@ use Rattle.registration.proofs.Registration.tick.Kinds as tick-kinds
 use Rattle.registration.proofs.Registration.tick.Reads as tick
 use Rattle.registration.proofs.Registration.is_waiting.Kinds as is-waiting-kinds
 use Rattle.registration.proofs.Registration.is_waiting.Reads as is-waiting
+use Rattle.registration.proofs.Registration.passed.Kinds as passed-kinds
+use Rattle.registration.proofs.Registration.passed.Reads as passed-reads
+use Rattle.registration.proofs.Registration.quiet.Kinds as quiet-kinds
+use Rattle.registration.proofs.Registration.quiet.Reads as quiet-reads
 
 pub fresh-settles : Settles 0 fresh-kinds.ps fresh-kinds.r fresh.Post
 fresh-settles κs a e x y p q = p ∙ sym q
@@ -57,3 +61,9 @@ tick-settles κs a e x y p q = p ∙ sym q
 
 pub is-waiting-settles : Settles 0 is-waiting-kinds.ps is-waiting-kinds.r is-waiting.Post
 is-waiting-settles κs a e x y p q = p ∙ sym q
+
+pub passed-settles : Settles 0 passed-kinds.ps passed-kinds.r passed-reads.Post
+passed-settles κs a e x y p q = p ∙ sym q
+
+pub quiet-settles : Settles 0 quiet-kinds.ps quiet-kinds.r quiet-reads.Post
+quiet-settles κs a e x y p q = p ∙ sym q

@@ -10,6 +10,8 @@ use Rattle.telling.proofs.Frames.none.Kinds as no-frames-kinds
 use Rattle.telling.proofs.Frames.none.Reads as no-frames
 use Rattle.telling.proofs.Frames.and.Kinds as frames-and-kinds
 use Rattle.telling.proofs.Frames.and.Reads as frames-and
+use Rattle.telling.proofs.Notice.is_nothing.Kinds as is-nothing-kinds
+use Rattle.telling.proofs.Notice.is_nothing.Reads as is-nothing-reads
 
 pub no-notices-settles : Settles 0 no-notices-kinds.ps no-notices-kinds.r no-notices.Post
 no-notices-settles κs a e x y p q = p ∙ sym q
@@ -22,3 +24,6 @@ no-frames-settles κs a e x y p q = p ∙ sym q
 
 pub frames-and-settles : Settles 0 frames-and-kinds.ps frames-and-kinds.r frames-and.Post
 frames-and-settles κs a e x y p q = p ∙ sym q
+
+pub is-nothing-settles : Settles 0 is-nothing-kinds.ps is-nothing-kinds.r is-nothing-reads.Post
+is-nothing-settles κs a e x y p q = p ∙ sym q
