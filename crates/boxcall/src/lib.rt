@@ -8,7 +8,6 @@ ghost use Rattle.boxwords.specs.Box.{boxWords};
 ghost use Rattle.words.specs.Words.{laid};
 ghost use Rattle.floorbox.specs.Answer.{refused};
 ghost use Rattle.floorbox.specs.Box.{registerOf, deregisterOf, tickOf};
-use boxwords::Front;
 use floorbox::Answer;
 use floorbox::FloorBox;
 use frame::Address;
@@ -121,13 +120,11 @@ fn settle(answer: Answer, block: &mut [u64], frames: &mut [u8], reply: &mut [u64
     tell(answer, frames, reply)
 }
 
-// A quiet tick moves the words before the grants; it tells and sends nothing.
-fn pass(next: Front, block: &mut [u64], reply: &mut [u64])
-    ensures { λ _. ⌜ passed (now (block .exit)) (now (reply .exit)) ≡ passedOn next (now (block .entry)) (now (reply .entry)) ⌝ }
+// A quiet tick tells and sends nothing.
+fn tell_nothing(reply: &mut [u64])
+    ensures { λ _. ⌜ now (reply .exit) ≡ laid (0 ∷ 0 ∷ 0 ∷ []) (now (reply .entry)) ⌝ }
 {
-    let front = boxwords::front_words(next);
     let nothing = [0u64; 3];
-    words::lay(&front, block);
     words::lay(&nothing, reply);
 }
 
@@ -205,21 +202,67 @@ pub fn hear(
     SHORT
 }
 
-// Nearly every tick is a quiet one, which leaves the grants packed.
+// Nearly every tick is a quiet one, which is made where the words lie.
 pub fn tick(block: &mut [u64], frames: &mut [u8], reply: &mut [u64]) -> u8
     ensures { λ r. ⌜ left r (now (block .exit)) (now (frames .exit)) (now (reply .exit)) ≡ boxCall tickOf (now (block .entry)) (now (frames .entry)) (now (reply .entry)) ⌝ }
 {
     if is_lent(block.len(), frames.len(), reply.len()) {
-        let passed = quiet::tick(words_in(block));
-        let next = passed.next;
-        if passed.quiet {
-            pass(next, block, reply);
+        if 1 <= boxpass::quiet(block) {
+            boxpass::pass(block, 1);
+            tell_nothing(reply);
             return 0;
         }
         let b = load(block);
         return settle(b.tick(), block, frames, reply);
     }
     SHORT
+}
+
+// An advance by the core, which counts the ticks that it makes.
+fn count_ticks(
+    n: u64,
+    block: &mut [u64],
+    frames: &mut [u8],
+    reply: &mut [u64],
+    made: &mut [u64],
+) -> u8
+    requires { ⌜ 120 ≤ length (now frames) ⌝ }
+{
+    let b = load(block);
+    let advanced = b.advance(n);
+    let answer = advanced.answer;
+    let ticks = [advanced.made];
+    words::lay(&ticks, made);
+    settle(answer, block, frames, reply)
+}
+
+// So many ticks, unless one of them hands something out or is refused: quiet ones are made in a step.
+pub fn advance(
+    n: u64,
+    block: &mut [u64],
+    frames: &mut [u8],
+    reply: &mut [u64],
+    made: &mut [u64],
+) -> u8
+    ensures { λ r. ⌜ advanceLeft (left r (now (block .exit)) (now (frames .exit)) (now (reply .exit))) (now (made .exit)) ≡ advanceCall n (now (block .entry)) (now (frames .entry)) (now (reply .entry)) (now (made .entry)) ⌝ }
+{
+    if is_lent(block.len(), frames.len(), reply.len()) & (1 <= made.len()) {
+        if clock::in_reach(n) & (n <= boxpass::quiet(block) as u64) {
+            boxpass::pass(block, n as u32);
+            tell_nothing(reply);
+            made[0] = n;
+            return 0;
+        }
+        return count_ticks(n, block, frames, reply, made);
+    }
+    SHORT
+}
+
+// How many ticks are sure to be done and to hand out nothing.
+pub fn ticks_until(block: &[u64]) -> u64
+    ensures { λ r. ⌜ r ≡ untilCall (now (block .entry)) ⌝ }
+{
+    boxpass::quiet(block) as u64
 }
 
 // Which waiting frame goes next: 0 none, 1 the control frame, 2 the data frame.

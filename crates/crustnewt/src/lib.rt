@@ -71,6 +71,28 @@ pub extern "C" fn crustnewt_box_tick(block: &mut [u64], frames: &mut [u8], reply
     boxcall::tick(block, frames, reply)
 }
 
+// So many quanta have passed, unless one of them hands something out or is refused.
+#[no_mangle]
+pub extern "C" fn crustnewt_box_advance(
+    ticks: u64,
+    block: &mut [u64],
+    frames: &mut [u8],
+    reply: &mut [u64],
+    made: &mut [u64],
+) -> u8
+    ensures { λ r. ⌜ advanceLeft (left r (now (block .exit)) (now (frames .exit)) (now (reply .exit))) (now (made .exit)) ≡ advanceCall ticks (now (block .entry)) (now (frames .entry)) (now (reply .entry)) (now (made .entry)) ⌝ }
+{
+    boxcall::advance(ticks, block, frames, reply, made)
+}
+
+// How many quanta are sure to pass with nothing handed out.
+#[no_mangle]
+pub extern "C" fn crustnewt_box_ticks_until(block: &[u64]) -> u64
+    ensures { λ r. ⌜ r ≡ untilCall (now (block .entry)) ⌝ }
+{
+    boxcall::ticks_until(block)
+}
+
 // Which waiting frame goes next: 0 none, 1 the control frame, 2 the data frame.
 #[no_mangle]
 pub extern "C" fn crustnewt_box_next_to_send<'a>(
