@@ -57,10 +57,13 @@ fn times(state: u64, wait: u64, watchdog: u64, report: u64) -> u64
     if state == 2 {
         return rings_in(wait, 3_125_000);
     }
-    if (state <= 1) & (wait == 0) {
-        return Timer::FURTHEST_ADVANCE as u64;
+    if wait != 0 {
+        return 0;
     }
-    0
+    if 1 < state {
+        return 0;
+    }
+    Timer::FURTHEST_ADVANCE as u64
 }
 
 // A random wait has room beside what a grant needs.
@@ -111,9 +114,6 @@ fn discovery(phase: u64, left: u64, grant: u64, sync: u64) -> u64
     if phase == 4 {
         return rings_in(left, 42);
     }
-    if (phase == 0) & (left == 0) {
-        return Timer::FURTHEST_ADVANCE as u64;
-    }
     0
 }
 
@@ -143,28 +143,16 @@ fn light(phase: u64, left: u64, grant: u64, sync: u64) -> u64
 }
 
 fn is_own(address: u64, count: u64, port: u64, sync: u64) -> bool {
-    range::individual(Address(address)) & (count < COUNTS) & (port <= SHORT) & (sync <= SHORT)
-}
-
-fn none_held(b: &[u64]) -> bool
-    requires { ⌜ 29 ≤ length (now b) ⌝ }
-{
-    (b[13] == 0)
-        & (b[14] == 0)
-        & (b[15] == 0)
-        & (b[16] == 0)
-        & (b[17] == 0)
-        & (b[18] == 0)
-        & (b[19] == 0)
-        & (b[20] == 0)
-        & (b[21] == 0)
-        & (b[22] == 0)
-        & (b[23] == 0)
-        & (b[24] == 0)
-        & (b[25] == 0)
-        & (b[26] == 0)
-        & (b[27] == 0)
-        & (b[28] == 0)
+    if !range::individual(Address(address)) {
+        return false;
+    }
+    if COUNTS <= count {
+        return false;
+    }
+    if SHORT < port {
+        return false;
+    }
+    sync <= SHORT
 }
 
 fn are_clear(b: &[u64], from: usize) -> bool
@@ -203,12 +191,12 @@ fn is_among(b: &[u64], end: usize, grant: u64) -> bool
     met
 }
 
-// Grants are held only when REGISTERED; at rest one of them is to be chosen.
+// Grants are held only when REGISTERED.
 fn are_held(b: &[u64]) -> bool
     requires { ⌜ 29 ≤ length (now b) ⌝ }
 {
     let number = b[12];
-    if (16 < number) | (b[2] != 3) | (b[8] == 0) {
+    if (16 < number) | (b[2] != 3) {
         return false;
     }
     let end = GRANTS + number as usize;
@@ -224,22 +212,43 @@ fn are_held(b: &[u64]) -> bool
     true
 }
 
-fn list(b: &[u64]) -> bool
+fn is_listed(b: &[u64]) -> bool
     requires { ⌜ 29 ≤ length (now b) ⌝ }
 {
     if b[12] == 0 {
-        return none_held(b) & (b[8] != 5) & ((b[2] != 0) | (b[8] == 0));
+        return are_clear(b, GRANTS) & (b[8] != 5);
     }
     are_held(b)
 }
 
+fn shines(b: &[u64]) -> u64
+    requires { ⌜ 29 ≤ length (now b) ⌝ }
+{
+    if b[2] == 0 {
+        return 0;
+    }
+    if is_listed(b) {
+        return light(b[8], b[9], b[10], b[11]);
+    }
+    0
+}
+
+// At rest the transmitter has no timer, no grant and no sync time, and one of the grants would be to choose: no word is left but 0.
 fn judged(b: &[u64]) -> u64
     requires { ⌜ 29 ≤ length (now b) ⌝ }
 {
+    if !is_own(b[0], b[1], b[6], b[7]) {
+        return 0;
+    }
     let t = times(b[2], b[3], b[4], b[5]);
-    let l = light(b[8], b[9], b[10], b[11]);
-    if is_own(b[0], b[1], b[6], b[7]) & list(b) {
-        return least(t, l);
+    if b[8] != 0 {
+        return least(t, shines(b));
+    }
+    if b[9] != 0 {
+        return 0;
+    }
+    if are_clear(b, 10) {
+        return t;
     }
     0
 }
