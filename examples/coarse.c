@@ -150,7 +150,9 @@ size_t take_frame(uint8_t *octets)
 {
     if (arrived == ARRIVALS || arrivals[arrived].at != now)
         return 0;
-    must(crustnewt_write(arrivals[arrived++].words, CRUSTNEWT_MESSAGE_WORDS, octets, CRUSTNEWT_FRAME_OCTETS) == CRUSTNEWT_DONE, "no message");
+    must(crustnewt_write(arrivals[arrived].words, CRUSTNEWT_MESSAGE_WORDS, octets, CRUSTNEWT_FRAME_OCTETS) == CRUSTNEWT_DONE,
+         "not a message");
+    arrived++;
     say("hears", octets, 0);
     return CRUSTNEWT_FRAME_OCTETS;
 }
