@@ -150,15 +150,9 @@ fn a_box_stops_before_a_tick_that_would_be_refused() {
     let Advanced { reply, made } = floor_box.advance(10).unwrap();
     assert_eq!(made, 4);
     assert!(reply.frames().is_empty() && reply.notices().next().is_none());
-    assert_eq!(floor_box, {
-        let stopped = BoxParts {
-            count: 4,
-            watchdog: 62_499_996,
-            report: 3_124_996,
-            ..warming(1).parts()
-        };
-        restored(stopped)
-    });
+    let parts = floor_box.parts();
+    assert_eq!((parts.count, parts.light), (4, Light::Warming { left: 1 }));
+    assert_eq!((parts.watchdog, parts.report), (62_499_996, 3_124_996));
     let before = floor_box.clone();
     assert_eq!(floor_box.advance(10), Err(Refusal::Window));
     assert_eq!(floor_box, before);
@@ -223,7 +217,7 @@ fn links_that_ring_together_are_told_together() {
     let Advanced { reply, made } = head.advance(9).unwrap();
     assert_eq!(made, 7);
     let gate = (7, Body::Gate(UpTo::default()));
-    assert!(reply.frames().iter().map(read).eq([gate.clone(), gate]));
+    assert!(reply.frames().iter().map(read).eq([gate, gate]));
     let addresses = reply.frames().iter().map(|frame| frame[..6].to_vec());
     assert!(addresses.eq([BOX, OTHER].map(|address| address.to_be_bytes()[2..].to_vec())));
 }
