@@ -5,14 +5,13 @@ use mathlib.Core.Bool.{Bool, cond, _&&_}
 use mathlib.Core.List.{List, [], _∷_, _++_}
 use denote.Ref.{RefT}
 use lib.Dec.{eqb, leb, ltb}
-use lib.ListN.{length, drop, replicate}
-use Rattle.boxwords.specs.Box.{boxWords, boxIn}
+use lib.ListN.{length, drop}
+use Rattle.boxwords.specs.Box.{boxWords}
 use Rattle.boxwords.specs.Told.{toldWords}
 use Rattle.floorbox.specs.Advance.{advanceOf}
 use Rattle.floorbox.specs.Answer.{refused}
 use Rattle.floorbox.specs.Box.{freshOf}
 use Rattle.floorbox.specs.Hear.{hearOf}
-use Rattle.floorbox.specs.Pass.{quietOf}
 use Rattle.floorbox.specs.Send.{sendOf}
 use Rattle.floorbox.specs.declared.Answer.{Answer}
 use Rattle.floorbox.specs.declared.FloorBox.{FloorBox}
@@ -20,6 +19,7 @@ use Rattle.frame.specs.Card.{numberOf}
 use Rattle.reader.specs.Decode.{readOf}
 use Rattle.telling.specs.declared.Frames.{Frames}
 use Rattle.words.specs.Words.{laid}
+unfoldable pub use Rattle.boxpass.specs.Block.{wordsAt, boxAt, untilCall}
 
 -- the number that a call returns, and what then stands in the block and in what was lent
 pub record Left : Type 0 where
@@ -39,13 +39,6 @@ pub record Told : Type 0 where
 
 abbrev pub told : ℕ → List ℕ → List ℕ → Told
 told n frames reply = record { number = n; frames = frames; reply = reply }
-
--- the words of the box that stands in a block, and the box
-unfoldable pub wordsAt : List ℕ → List ℕ
-wordsAt block = laid block (replicate 29 0)
-
-unfoldable pub boxAt : List ℕ → FloorBox
-boxAt block = boxIn (wordsAt block)
 
 -- 29 words for the box, 120 octets for two frames, 19 words for what is told with four notices
 unfoldable pub isLent : ℕ → ℕ → ℕ → Bool
@@ -106,18 +99,17 @@ pub record AdvanceLeft : Type 0 where
 abbrev pub advanceLeft : Left → List ℕ → AdvanceLeft
 advanceLeft l made = record { call = l; made = made }
 
--- an advance is that of the box in the block, and the first word of `made` the number of ticks made; where too little is lent it is 100, and
--- nothing is touched
+-- the box in the block, and the first word of `made`, which is the number of ticks made
+unfoldable pub advancedOf : ℕ → List ℕ → List ℕ → List ℕ → List ℕ → AdvanceLeft
+advancedOf n block frames reply made =
+    let a = advanceOf (boxAt block) n in
+    advanceLeft (settled (a .answer) block frames reply) (laid (a .made ∷ []) made)
+
+-- an advance is that of the box in the block; where too little is lent it is 100, and nothing is touched
 unfoldable pub advanceCall : ℕ → List ℕ → List ℕ → List ℕ → List ℕ → AdvanceLeft
 advanceCall n block frames reply made =
-    let a = advanceOf (boxAt block) n in
-    cond (isLent (length block) (length frames) (length reply) && leb 1 (length made))
-    (advanceLeft (settled (a .answer) block frames reply) (laid (a .made ∷ []) made))
+    cond (isLent (length block) (length frames) (length reply) && leb 1 (length made)) (advancedOf n block frames reply made)
     (advanceLeft (left 100 block frames reply) made)
-
--- how many ticks of the box in the block are sure to be done and to hand out nothing; none where the block is too short
-unfoldable pub untilCall : List ℕ → ℕ
-untilCall block = cond (leb 29 (length block)) (quietOf (boxAt block)) 0
 
 -- none where what goes next is empty; the control frame, or where there is none the data frame
 unfoldable pub nextCall : List ℕ → RefT (List ℕ) → RefT (List ℕ) → ℕ

@@ -2,8 +2,12 @@
 ghost use mathlib.Core.Path.{_≡_};
 ghost use Prim.Native.Nat.{_≤_};
 ghost use lib.ListN.{length};
-ghost use Rattle.boxcall.specs.Calls.{told, left, wordsAt, boxAt, isLent, heardOf, laidOne, laidBoth, laidFrames, toldOf, handed, settled, freshCall, boxCall, nextCall};
-ghost use Rattle.boxcall.specs.Passing.{passed, passedOn};
+ghost use mathlib.Core.Bool.{_&&_};
+ghost use mathlib.Core.List.{[], _∷_};
+ghost use lib.Dec.{leb};
+ghost use Rattle.boxcall.specs.Calls.{told, left, isLent, heardOf, laidOne, laidBoth, laidFrames, toldOf, handed, settled, freshCall, boxCall, advanceLeft, advancedOf, advanceCall, nextCall};
+ghost use Rattle.boxpass.specs.Block.{wordsAt, boxAt, untilCall};
+ghost use Rattle.clock.specs.Numbers.{inReach};
 ghost use Rattle.boxwords.specs.Box.{boxWords};
 ghost use Rattle.words.specs.Words.{laid};
 ghost use Rattle.floorbox.specs.Answer.{refused};
@@ -218,7 +222,14 @@ pub fn tick(block: &mut [u64], frames: &mut [u8], reply: &mut [u64]) -> u8
     SHORT
 }
 
-// An advance by the core, which counts the ticks that it makes.
+fn tell_made(ticks: u64, made: &mut [u64])
+    ensures { λ _. ⌜ now (made .exit) ≡ laid (ticks ∷ []) (now (made .entry)) ⌝ }
+{
+    let told = [ticks];
+    words::lay(&told, made);
+}
+
+// The core's advance.
 fn count_ticks(
     n: u64,
     block: &mut [u64],
@@ -227,16 +238,23 @@ fn count_ticks(
     made: &mut [u64],
 ) -> u8
     requires { ⌜ 120 ≤ length (now frames) ⌝ }
+    ensures { λ r. ⌜ advanceLeft (left r (now (block .exit)) (now (frames .exit)) (now (reply .exit))) (now (made .exit)) ≡ advancedOf n (now (block .entry)) (now (frames .entry)) (now (reply .entry)) (now (made .entry)) ⌝ }
 {
     let b = load(block);
     let advanced = b.advance(n);
     let answer = advanced.answer;
-    let ticks = [advanced.made];
-    words::lay(&ticks, made);
+    tell_made(advanced.made, made);
     settle(answer, block, frames, reply)
 }
 
-// So many ticks, unless one of them hands something out or is refused: quiet ones are made in a step.
+// So many ticks may be made, and none of them is more than quiet.
+fn are_quiet(n: u64, block: &[u64]) -> bool
+    ensures { λ r. ⌜ r ≡ (inReach n && leb n (untilCall (now (block .entry)))) ⌝ }
+{
+    clock::in_reach(n) & (n <= boxpass::quiet(block) as u64)
+}
+
+// So many ticks, until one hands something out or the next would be refused: quiet ones are made in a step, where the words lie.
 pub fn advance(
     n: u64,
     block: &mut [u64],
@@ -246,11 +264,14 @@ pub fn advance(
 ) -> u8
     ensures { λ r. ⌜ advanceLeft (left r (now (block .exit)) (now (frames .exit)) (now (reply .exit))) (now (made .exit)) ≡ advanceCall n (now (block .entry)) (now (frames .entry)) (now (reply .entry)) (now (made .entry)) ⌝ }
 {
-    if is_lent(block.len(), frames.len(), reply.len()) & (1 <= made.len()) {
-        if clock::in_reach(n) & (n <= boxpass::quiet(block) as u64) {
+    if made.len() == 0 {
+        return SHORT;
+    }
+    if is_lent(block.len(), frames.len(), reply.len()) {
+        if are_quiet(n, block) {
             boxpass::pass(block, n as u32);
             tell_nothing(reply);
-            made[0] = n;
+            tell_made(n, made);
             return 0;
         }
         return count_ticks(n, block, frames, reply, made);

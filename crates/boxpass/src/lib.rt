@@ -1,11 +1,12 @@
 // The box's quiet ticks over its words where they lie in the caller's memory: how many are sure, and so many of them made. No box is taken
 // from the words, and only those that move are written.
 ghost use mathlib.Core.Path.{_≡_};
-ghost use Prim.Native.Nat.{_-_, _≤_, min};
+ghost use Prim.Native.Nat.{_+_, _-_, _%_, _≤_, min};
 ghost use lib.ListN.{length, drop, take};
+ghost use Rattle.boxwords.specs.Box.{isClear};
 ghost use Rattle.boxpass.specs.Block.{untilCall};
-ghost use Rattle.boxpass.specs.Judging.{ringsIn, timesOf, fitsBeside, discoveryOf, isServed, lightOf, isDue, isOwn, isClear, areShort, isAmong, areHeld, quietWords};
-ghost use Rattle.boxpass.specs.Passing.{lessOf, passedWords};
+ghost use Rattle.boxpass.specs.Judging.{ringsIn, timesOf, fitsBeside, discoveryOf, isServed, lightOf, isOwn, areShort, isAmong, areHeld, isListed, shinesOf, judgedOf};
+ghost use Rattle.boxpass.specs.Passing.{movedOf, passedWords};
 use clock::Timer;
 use frame::Address;
 
@@ -17,20 +18,10 @@ const GRANTS: usize = 13;
 // A count is below this.
 const COUNTS: u64 = 0x1_0000_0000;
 
-// A length, a sync time or a port is sixteen bits; a sync time leaves room for what a grant needs beside it.
+// A length, a sync time or a port is sixteen bits; a grant's sync time leaves room for what the grant needs beside it.
 const SHORT: u64 = 0xFFFF;
 
 const LONGEST_SYNC: u64 = 65_461;
-
-// A timer that runs, and has no more left than its longest setting: the ticks before the one at which it rings. None of any other.
-fn rings_in(left: u64, most: u64) -> u64
-    ensures { λ r. ⌜ r ≡ ringsIn left most ⌝ }
-{
-    if (left == 0) | (most < left) {
-        return 0;
-    }
-    left - 1
-}
 
 fn least(a: u64, b: u64) -> u64
     ensures { λ r. ⌜ r ≡ min a b ⌝ }
@@ -41,29 +32,40 @@ fn least(a: u64, b: u64) -> u64
     b
 }
 
+// A timer that runs, and has no more left than its longest setting: the ticks before the one at which it rings. None of any other.
+fn rings_in(left: u64, most: u64) -> u64
+    ensures { λ r. ⌜ r ≡ ringsIn left most ⌝ }
+{
+    if left == 0 {
+        return 0;
+    }
+    if most < left {
+        return 0;
+    }
+    left - 1
+}
+
 // Each state runs its own timers and no other.
 fn times(state: u64, wait: u64, watchdog: u64, report: u64) -> u64
     ensures { λ r. ⌜ r ≡ timesOf state wait watchdog report ⌝ }
 {
     if state == 3 {
-        if wait != 0 {
-            return 0;
+        if wait == 0 {
+            return least(rings_in(watchdog, 62_500_000), rings_in(report, 3_125_000));
         }
-        return least(rings_in(watchdog, 62_500_000), rings_in(report, 3_125_000));
-    }
-    if (watchdog != 0) | (report != 0) {
         return 0;
     }
-    if state == 2 {
-        return rings_in(wait, 3_125_000);
+    if (watchdog == 0) & (report == 0) {
+        if state == 2 {
+            return rings_in(wait, 3_125_000);
+        }
+        if wait == 0 {
+            if state < 2 {
+                return Timer::FURTHEST_ADVANCE as u64;
+            }
+        }
     }
-    if wait != 0 {
-        return 0;
-    }
-    if 1 < state {
-        return 0;
-    }
-    Timer::FURTHEST_ADVANCE as u64
+    0
 }
 
 // A random wait has room beside what a grant needs.
@@ -76,7 +78,7 @@ fn fits_beside(random: u64, sync: u64) -> bool
     random <= LONGEST_SYNC - sync
 }
 
-// A length of sixteen bits that a grant needs, or more.
+// A length of sixteen bits that is not below what a grant needs.
 fn is_served(length: u64, sync: u64) -> bool
     ensures { λ r. ⌜ r ≡ isServed length sync ⌝ }
 {
@@ -86,7 +88,7 @@ fn is_served(length: u64, sync: u64) -> bool
     (74 + sync <= length) & (length <= SHORT)
 }
 
-// Phases of discovery, and rest.
+// The phases of discovery.
 fn discovery(phase: u64, left: u64, grant: u64, sync: u64) -> u64
     ensures { λ r. ⌜ r ≡ discoveryOf phase left grant sync ⌝ }
 {
@@ -96,36 +98,32 @@ fn discovery(phase: u64, left: u64, grant: u64, sync: u64) -> u64
         }
         return 0;
     }
-    if grant != 0 {
-        return 0;
-    }
-    if phase == 2 {
+    if (phase == 2) & (grant == 0) {
         if fits_beside(left, sync) {
             return rings_in(left, SHORT);
         }
         return 0;
     }
-    if sync != 0 {
-        return 0;
-    }
-    if phase == 3 {
-        return rings_in(left, 65_493);
-    }
-    if phase == 4 {
-        return rings_in(left, 42);
+    if (grant == 0) & (sync == 0) {
+        if phase == 3 {
+            return rings_in(left, 65_493);
+        }
+        if phase == 4 {
+            return rings_in(left, 42);
+        }
     }
     0
 }
 
-// The transmitter; whether a grant that is waited for is one of the list is judged apart.
+// A transmitter that isn't at rest; whether a grant that is waited for is one of the list is judged apart.
 fn light(phase: u64, left: u64, grant: u64, sync: u64) -> u64
     ensures { λ r. ⌜ r ≡ lightOf phase left grant sync ⌝ }
 {
     if phase == 7 {
-        if (grant != 0) | (sync != 0) {
-            return 0;
+        if (grant == 0) & (sync == 0) {
+            return rings_in(left, 65_503);
         }
-        return rings_in(left, 65_503);
+        return 0;
     }
     if phase == 6 {
         if is_served(grant, sync) {
@@ -142,21 +140,22 @@ fn light(phase: u64, left: u64, grant: u64, sync: u64) -> u64
     discovery(phase, left, grant, sync)
 }
 
-fn is_own(address: u64, count: u64, port: u64, sync: u64) -> bool {
-    if !range::individual(Address(address)) {
-        return false;
+// What no timer and no grant is judged with.
+fn is_own(address: u64, count: u64, port: u64, sync: u64) -> bool
+    ensures { λ r. ⌜ r ≡ isOwn address count port sync ⌝ }
+{
+    if count < COUNTS {
+        if (port <= SHORT) & (sync <= SHORT) {
+            return range::individual(Address(address));
+        }
     }
-    if COUNTS <= count {
-        return false;
-    }
-    if SHORT < port {
-        return false;
-    }
-    sync <= SHORT
+    false
 }
 
+// Nothing stands in the box's words from here on.
 fn are_clear(b: &[u64], from: usize) -> bool
     requires { ⌜ 29 ≤ length (now b) ⌝ }
+    ensures { λ r. ⌜ r ≡ isClear (drop from (take 29 (now (b .entry)))) ⌝ }
 {
     let mut clear = true;
     let mut i = from;
@@ -167,8 +166,10 @@ fn are_clear(b: &[u64], from: usize) -> bool
     clear
 }
 
+// The lengths of the grants before this place are sixteen bits.
 fn are_short(b: &[u64], end: usize) -> bool
-    requires { ⌜ 29 ≤ length (now b) ⌝ }
+    requires { ⌜ (29 ≤ length (now b)) × (end ≤ 29) ⌝ }
+    ensures { λ r. ⌜ r ≡ areShort (drop 13 (take end (now (b .entry)))) ⌝ }
 {
     let mut short = true;
     let mut i = GRANTS;
@@ -180,7 +181,8 @@ fn are_short(b: &[u64], end: usize) -> bool
 }
 
 fn is_among(b: &[u64], end: usize, grant: u64) -> bool
-    requires { ⌜ 29 ≤ length (now b) ⌝ }
+    requires { ⌜ (29 ≤ length (now b)) × (end ≤ 29) ⌝ }
+    ensures { λ r. ⌜ r ≡ isAmong grant (drop 13 (take end (now (b .entry)))) ⌝ }
 {
     let mut met = false;
     let mut i = GRANTS;
@@ -191,68 +193,77 @@ fn is_among(b: &[u64], end: usize, grant: u64) -> bool
     met
 }
 
-// Grants are held only when REGISTERED.
-fn are_held(b: &[u64]) -> bool
+// Grants are held only when REGISTERED, and one that is waited for is among them.
+fn are_held(b: &[u64], number: u64, state: u64, phase: u64, grant: u64) -> bool
     requires { ⌜ 29 ≤ length (now b) ⌝ }
+    ensures { λ r. ⌜ r ≡ areHeld (now (b .entry)) number state phase grant ⌝ }
 {
-    let number = b[12];
-    if (16 < number) | (b[2] != 3) {
+    if 16 < number {
+        return false;
+    }
+    if state != 3 {
         return false;
     }
     let end = GRANTS + number as usize;
-    if !are_clear(b, end) {
-        return false;
+    if are_clear(b, end) & are_short(b, end) {
+        if phase == 5 {
+            return is_among(b, end, grant);
+        }
+        return true;
     }
-    if !are_short(b, end) {
-        return false;
-    }
-    if b[8] == 5 {
-        return is_among(b, end, b[10]);
-    }
-    true
+    false
 }
 
-fn is_listed(b: &[u64]) -> bool
+fn is_listed(b: &[u64], number: u64, state: u64, phase: u64, grant: u64) -> bool
     requires { ⌜ 29 ≤ length (now b) ⌝ }
+    ensures { λ r. ⌜ r ≡ isListed (now (b .entry)) number state phase grant ⌝ }
 {
-    if b[12] == 0 {
-        return are_clear(b, GRANTS) & (b[8] != 5);
+    if number == 0 {
+        if phase == 5 {
+            return false;
+        }
+        return are_clear(b, GRANTS);
     }
-    are_held(b)
+    are_held(b, number, state, phase, grant)
 }
 
-fn shines(b: &[u64]) -> u64
+// In WAIT the transmitter is at rest.
+fn shines(b: &[u64], state: u64, phase: u64) -> u64
     requires { ⌜ 29 ≤ length (now b) ⌝ }
+    ensures { λ r. ⌜ r ≡ shinesOf (now (b .entry)) state phase ⌝ }
 {
-    if b[2] == 0 {
+    let grant = b[10];
+    if state == 0 {
         return 0;
     }
-    if is_listed(b) {
-        return light(b[8], b[9], b[10], b[11]);
+    if is_listed(b, b[12], state, phase, grant) {
+        return light(phase, b[9], grant, b[11]);
     }
     0
 }
 
-// At rest the transmitter has no timer, no grant and no sync time, and one of the grants would be to choose: no word is left but 0.
+// At rest there is no timer, grant or sync time, and grants would be to choose from: no word behind the phase is other than 0.
 fn judged(b: &[u64]) -> u64
     requires { ⌜ 29 ≤ length (now b) ⌝ }
+    ensures { λ r. ⌜ r ≡ judgedOf (now (b .entry)) ⌝ }
 {
-    if !is_own(b[0], b[1], b[6], b[7]) {
-        return 0;
-    }
-    let t = times(b[2], b[3], b[4], b[5]);
-    if b[8] != 0 {
-        return least(t, shines(b));
-    }
-    if b[9] != 0 {
-        return 0;
-    }
-    if are_clear(b, 10) {
-        return t;
+    if is_own(b[0], b[1], b[6], b[7]) {
+        let state = b[2];
+        let phase = b[8];
+        let t = times(state, b[3], b[4], b[5]);
+        if phase != 0 {
+            return least(t, shines(b, state, phase));
+        }
+        if b[9] == 0 {
+            if are_clear(b, 10) {
+                return t;
+            }
+        }
     }
     0
 }
 
+// How many ticks of the box in the block are sure to be done and to hand out nothing: none where its words are no sound box's.
 pub fn quiet(block: &[u64]) -> u32
     ensures { λ r. ⌜ r ≡ untilCall (now (block .entry)) ⌝ }
 {
@@ -272,16 +283,19 @@ fn less(left: u64, k: u64) -> u64
     left - k
 }
 
-fn later(count: u64, k: u64) -> u64 {
-    (count % COUNTS + k) % COUNTS
+// The count wraps.
+fn later(count: u64, k: u32) -> u64
+    ensures { λ r. ⌜ r ≡ (count + k) % 4294967296 ⌝ }
+{
+    (count % COUNTS + k as u64) % COUNTS
 }
 
-pub fn pass(b: &mut [u64], ticks: u32) {
-    if b.len() < BOX {
-        return;
-    }
+fn move_on(b: &mut [u64], ticks: u32)
+    requires { ⌜ 29 ≤ length (now b) ⌝ }
+    ensures { λ _. ⌜ now (b .exit) ≡ movedOf (now (b .entry)) ticks ⌝ }
+{
     let k = ticks as u64;
-    let count = later(b[1], k);
+    let count = later(b[1], ticks);
     let wait = less(b[3], k);
     let watchdog = less(b[4], k);
     let report = less(b[5], k);
@@ -291,4 +305,14 @@ pub fn pass(b: &mut [u64], ticks: u32) {
     b[4] = watchdog;
     b[5] = report;
     b[9] = left;
+}
+
+// So many quiet ticks: the count moves, and the timers that run.
+pub fn pass(block: &mut [u64], k: u32)
+    ensures { λ _. ⌜ now (block .exit) ≡ passedWords (now (block .entry)) k ⌝ }
+{
+    if block.len() < BOX {
+        return;
+    }
+    move_on(block, k);
 }

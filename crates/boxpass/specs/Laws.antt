@@ -5,7 +5,7 @@ use mathlib.Core.Path.{_≡_}
 use mathlib.Core.List.{List}
 use lib.ListN.{length, take, replicate}
 use Rattle.words.specs.Laws.{laid-whole}
-use Rattle.boxcall.specs.Calls.{wordsAt}
+use Rattle.boxpass.specs.Block.{wordsAt}
 
 pub whole : (block : List ℕ) → 29 ≤ length block → wordsAt block ≡ take 29 block
 unfolding wordsAt
