@@ -2,7 +2,7 @@
 -- Assumes nothing.
 use Prim.Native.Nat.{ℕ, _≤_}
 use mathlib.Core.Path.{_≡_, sym, _∙_}
-use mathlib.Core.Bool.{Bool, true, _&&_, and-eq-true-iff}
+use mathlib.Core.Bool.{Bool, true, false, _&&_, and-false, and-eq-true-iff}
 use mathlib.Core.List.{List, [], _∷_}
 use native.Mathlib.Omega.{arith}
 use borrow.Author.Tests.{le-leb, leb-true}
@@ -21,7 +21,8 @@ use Rattle.floorbox.specs.Quiet.{quiet-one}
 use Rattle.floorbox.specs.Turns.{advance-quiet}
 use Rattle.frame.specs.declared.Reply.the-variants.{Done}
 use Rattle.words.specs.Words.{laid}
-use Rattle.boxcall.specs.Calls.{left, toldOf, handed, settled, advanceLeft, advancedOf}
+use Rattle.boxcall.specs.Advancing.{advancedOf}
+use Rattle.boxcall.specs.Calls.{left, isLent, toldOf, handed, settled, advanceLeft, advanceCall}
 
 -- where the block is long enough, the number is that of its box
 until-box : (block : List ℕ) → 29 ≤ length block → untilCall block ≡ quietOf (boxAt block)
@@ -54,3 +55,18 @@ advance-left n block frames reply made h r u =
     let q : n ≤ quietOf (boxAt block) = rw (until-box block h) at u in
     let p = reach-parts n r in
     rw (advance-quiet (boxAt block) n r q, quiet-left block h frames reply n (omega (arith, q, p .0)))
+
+-- what is lent for an advance
+module _ (n : ℕ) (block frames reply made : List ℕ) where
+  pub none-made : length made ≡ 0 → advanceLeft (left 100 block frames reply) made ≡ advanceCall n block frames reply made
+  unfolding advanceCall
+  none-made z = rw (z, and-false (isLent (length block) (length frames) (length reply)))
+
+  module _ (t : Bool) (e : t ≡ isLent (length block) (length frames) (length reply)) where
+    pub too-little : t ≡ false → advanceLeft (left 100 block frames reply) made ≡ advanceCall n block frames reply made
+    unfolding advanceCall
+    too-little f = rw (← e, f)
+
+    pub enough : t ≡ true → (length made ≡ 0 → ⊥) → advancedOf n block frames reply made ≡ advanceCall n block frames reply made
+    unfolding advanceCall advancedOf
+    enough f some = rw (← e, f, le-leb 1 (length made) (omega (arith, some)))

@@ -99,16 +99,13 @@ pub record AdvanceLeft : Type 0 where
 abbrev pub advanceLeft : Left → List ℕ → AdvanceLeft
 advanceLeft l made = record { call = l; made = made }
 
--- the box in the block, and the first word of `made`, which is the number of ticks made
-unfoldable pub advancedOf : ℕ → List ℕ → List ℕ → List ℕ → List ℕ → AdvanceLeft
-advancedOf n block frames reply made =
-    let a = advanceOf (boxAt block) n in
-    advanceLeft (settled (a .answer) block frames reply) (laid (a .made ∷ []) made)
-
--- an advance is that of the box in the block; where too little is lent it is 100, and nothing is touched
+-- an advance is that of the box in the block, and the first word of `made` the number of ticks made; where too little is lent it is 100, and
+-- nothing is touched
 unfoldable pub advanceCall : ℕ → List ℕ → List ℕ → List ℕ → List ℕ → AdvanceLeft
 advanceCall n block frames reply made =
-    cond (isLent (length block) (length frames) (length reply) && leb 1 (length made)) (advancedOf n block frames reply made)
+    let a = advanceOf (boxAt block) n in
+    cond (isLent (length block) (length frames) (length reply) && leb 1 (length made))
+    (advanceLeft (settled (a .answer) block frames reply) (laid (a .made ∷ []) made))
     (advanceLeft (left 100 block frames reply) made)
 
 -- none where what goes next is empty; the control frame, or where there is none the data frame

@@ -1,6 +1,7 @@
 // The C face: the caller keeps a box, or a head and its table, as words in blocks, and lends what a call hands out.
 ghost use mathlib.Core.Path.{_≡_};
-ghost use Rattle.boxcall.specs.Calls.{left, heardOf, freshCall, boxCall, nextCall};
+ghost use Rattle.boxcall.specs.Calls.{left, heardOf, freshCall, boxCall, advanceLeft, advanceCall, nextCall};
+ghost use Rattle.boxpass.specs.Block.{untilCall};
 ghost use Rattle.frameread.specs.Read.{readLeft, readCall};
 ghost use Rattle.framewrite.specs.Write.{writeLeft, writeCall};
 ghost use Rattle.floorbox.specs.Box.{registerOf, deregisterOf, tickOf};

@@ -1,86 +1,73 @@
+-- `boxcall::advance` meets its promise.
+-- Assumes nothing.
+use mathlib.Core.Path.{_∙_}
+use native.Mathlib.Omega.{arith}
 use borrow.Author.Needs.{needs}
+use Rattle.clock.specs.Laws.{reach-parts}
+use Rattle.boxcall.proofs.Lent.{room, place}
+use Rattle.boxcall.proofs.Passing.{quiet-parts, advance-left, none-made, too-little, enough}
 use Rattle.boxcall.proofs.advance.Statement.{statement}
 use Rattle.boxcall.proofs.advance.Tie as tie
-use Rattle.boxcall.proofs.advance.Reads as reads
-use Rattle.boxcall.proofs.advance.Lts as lts
-use Rattle.boxcall.proofs.are_quiet.Reads as are-quiet-reads
-use Rattle.boxcall.proofs.count_ticks.Reads as count-ticks-reads
-use Rattle.boxcall.proofs.is_lent.Reads as is-lent-reads
-use Rattle.boxcall.proofs.tell_made.Reads as tell-made-reads
-use Rattle.boxcall.proofs.tell_nothing.Reads as tell-nothing-reads
-use Rattle.boxpass.proofs.pass.Reads as pass-reads
 
--- src/lib.rt:268:9
 returns : tie.Need-returns
-returns c = ?
+returns c = none-made _ _ _ _ _ (c .if1 .taken)
 
--- src/lib.rt:270:8
 is-lent-requires : tie.Need-is-lent-requires
 is-lent-requires c κs = search needs
 
--- src/lib.rt:271:12
 are-quiet-requires : tie.Need-are-quiet-requires
 are-quiet-requires c κs = search needs
 
--- src/lib.rt:272:34
 cast-pass : tie.Need-cast-pass
-cast-pass c = ?
+cast-pass c = omega (arith, reach-parts _ (quiet-parts _ _ _ (c .before .before .are-quiet .ensures) (c .before .if3 .taken) .0) .1)
 
--- src/lib.rt:272:13
 pass-requires : tie.Need-pass-requires
 pass-requires c κs = search needs
 
--- src/lib.rt:273:13
 tell-nothing-requires : tie.Need-tell-nothing-requires
 tell-nothing-requires c κs = search needs
 
--- src/lib.rt:274:13
 tell-made-requires : tie.Need-tell-made-requires
 tell-made-requires c κs = search needs
 
--- src/lib.rt:275:13
 same-length : tie.Need-same-length
 same-length c = search needs
 
--- src/lib.rt:275:13
 same-length-2 : tie.Need-same-length-2
 same-length-2 c = search needs
 
--- src/lib.rt:275:13
 same-length-3 : tie.Need-same-length-3
 same-length-3 c = search needs
 
--- src/lib.rt:275:13
 returns-2 : tie.Need-returns-2
-returns-2 c = ?
+returns-2 c =
+    let lent = c .before .before .before .before .before .before .before .before .before .before .before .before .before .before .before .before .is-lent .ensures in
+    let taken = c .before .before .before .before .before .before .before .before .before .before .before .before .before .before .before .if2 .taken in
+    let quiet = quiet-parts _ _ _ (c .before .before .before .before .before .before .before .before .before .before .before .before .before .are-quiet .ensures) (c .before .before .before .before .before .before .before .before .before .before .before .before .if3 .taken) in
+    rw (c .before .before .tell-made .ensures, c .before .before .before .before .before .before .tell-nothing .ensures, c .before .before .before .before .before .before .before .before .before .before .pass .ensures)
+    (advance-left _ _ _ _ _ (place _ _ _ _ lent taken) (quiet .0) (quiet .1)
+    ∙ enough _ _ _ _ _ _ lent taken (c .before .before .before .before .before .before .before .before .before .before .before .before .before .before .before .before .before .if1 .left))
 
--- src/lib.rt:277:9
 count-ticks-requires : tie.Need-count-ticks-requires
-count-ticks-requires c κs = ?
+count-ticks-requires c κs = room _ _ _ _ (c .before .before .before .before .before .before .before .before .is-lent .ensures) (c .before .before .before .before .before .before .before .if2 .taken)
 
--- src/lib.rt:277:9
 same-length-4 : tie.Need-same-length-4
 same-length-4 c = search needs
 
--- src/lib.rt:277:9
 same-length-5 : tie.Need-same-length-5
 same-length-5 c = search needs
 
--- src/lib.rt:277:9
 same-length-6 : tie.Need-same-length-6
 same-length-6 c = search needs
 
--- src/lib.rt:277:9
 same-length-7 : tie.Need-same-length-7
 same-length-7 c = search needs
 
--- src/lib.rt:277:9
 returns-3 : tie.Need-returns-3
-returns-3 c = ?
+returns-3 c = c .before .before .before .before .before .before .before .before .count-ticks .ensures ∙ enough _ _ _ _ _ _ (c .before .before .before .before .before .before .before .before .before .before .before .before .before .before .before .before .before .is-lent .ensures) (c .before .before .before .before .before .before .before .before .before .before .before .before .before .before .before .before .if2 .taken) (c .before .before .before .before .before .before .before .before .before .before .before .before .before .before .before .before .before .before .if1 .left)
 
--- src/lib.rt:258:1
 returns-4 : tie.Need-returns-4
-returns-4 c = ?
+returns-4 c = too-little _ _ _ _ _ _ (c .before .is-lent .ensures) (c .if2 .left)
 
 pub advance-spec : {M : Type 1} → statement M
 advance-spec =

@@ -1,75 +1,70 @@
+-- `boxcall::tick` meets its promise.
+-- Assumes nothing.
 use borrow.Author.Needs.{needs}
+use Rattle.boxcall.specs.Calls.{boxCall}
+use Rattle.boxcall.proofs.Lent.{room, place}
+use Rattle.boxcall.proofs.Passing.{tick-left}
 use Rattle.boxcall.proofs.tick.Statement.{statement}
 use Rattle.boxcall.proofs.tick.Tie as tie
-use Rattle.boxcall.proofs.tick.Reads as reads
-use Rattle.boxcall.proofs.tick.Lts as lts
-use Rattle.boxcall.proofs.is_lent.Reads as is-lent-reads
-use Rattle.boxcall.proofs.load.Reads as load-reads
-use Rattle.boxcall.proofs.settle.Reads as settle-reads
-use Rattle.boxcall.proofs.tell_nothing.Reads as tell-nothing-reads
-use Rattle.boxpass.proofs.pass.Reads as pass-reads
-use Rattle.boxpass.proofs.quiet.Reads as quiet-reads
-use Rattle.floorbox.proofs.FloorBox.tick.Reads as tick-reads
 
--- src/lib.rt:213:8
 is-lent-requires : tie.Need-is-lent-requires
 is-lent-requires c κs = search needs
 
--- src/lib.rt:214:17
 quiet-requires : tie.Need-quiet-requires
 quiet-requires c κs = search needs
 
--- src/lib.rt:215:13
 pass-requires : tie.Need-pass-requires
 pass-requires c κs = search needs
 
--- src/lib.rt:216:13
 tell-nothing-requires : tie.Need-tell-nothing-requires
 tell-nothing-requires c κs = search needs
 
--- src/lib.rt:217:13
 same-length : tie.Need-same-length
 same-length c = search needs
 
--- src/lib.rt:217:13
 same-length-2 : tie.Need-same-length-2
 same-length-2 c = search needs
 
--- src/lib.rt:217:13
 returns : tie.Need-returns
-returns c = ?
+unfolding boxCall
+returns c =
+    let lent = c .before .before .before .before .before .before .before .before .before .before .before .before .is-lent .ensures in
+    let enough = c .before .before .before .before .before .before .before .before .before .before .before .if1 .taken in
+    rw (← lent, enough, c .before .before .tell-nothing .ensures, c .before .before .before .before .before .before .pass .ensures)
+    (tick-left _ (place _ _ _ _ lent enough) _ _ (rw (c .before .before .before .before .before .before .before .before .before .quiet .ensures) at (c .before .before .before .before .before .before .before .before .if2 .taken)))
 
--- src/lib.rt:219:13
 load-requires : tie.Need-load-requires
 load-requires c κs = search needs
 
--- src/lib.rt:220:23
 tick-requires : tie.Need-tick-requires
 tick-requires c κs = search needs
 
--- src/lib.rt:220:9
 settle-requires : tie.Need-settle-requires
-settle-requires c κs = ?
+settle-requires c κs = room _ _ _ _ (c .before .before .before .before .before .before .before .before .before .before .is-lent .ensures) (c .before .before .before .before .before .before .before .before .before .if1 .taken)
 
--- src/lib.rt:220:9
 same-length-3 : tie.Need-same-length-3
 same-length-3 c = search needs
 
--- src/lib.rt:220:9
 same-length-4 : tie.Need-same-length-4
 same-length-4 c = search needs
 
--- src/lib.rt:220:9
 same-length-5 : tie.Need-same-length-5
 same-length-5 c = search needs
 
--- src/lib.rt:220:9
 returns-2 : tie.Need-returns-2
-returns-2 c = ?
+unfolding boxCall
+returns-2 c =
+    rw (
+      c .before .before .before .before .before .before .settle .ensures,
+      c .before .before .before .before .before .before .before .before .before .before .tick .ensures,
+      c .before .before .before .before .before .before .before .before .before .before .before .load .ensures,
+      ← c .before .before .before .before .before .before .before .before .before .before .before .before .before .before .before .before .before .is-lent .ensures,
+      c .before .before .before .before .before .before .before .before .before .before .before .before .before .before .before .before .if1 .taken,
+    )
 
--- src/lib.rt:210:1
 returns-3 : tie.Need-returns-3
-returns-3 c = ?
+unfolding boxCall
+returns-3 c = rw (← c .before .is-lent .ensures, c .if1 .left)
 
 pub tick-spec : {M : Type 1} → statement M
 tick-spec =
