@@ -39,6 +39,7 @@
 #[cfg(feature = "std")]
 extern crate std;
 
+mod advanced;
 mod floor_box;
 mod head;
 mod message;
@@ -47,6 +48,7 @@ pub mod sys;
 mod up_to;
 mod word;
 
+pub use advanced::Advanced;
 pub use floor_box::{BoxNotice, BoxParts, BoxReply, BoxState, FloorBox, Light, Next};
 #[cfg(feature = "std")]
 pub use head::VecTable;
