@@ -41,6 +41,10 @@ box, and prints what each call answered and the state that it left. A line
 that isn't of the replay language is answered `? N` with its number, and the
 replay goes on; such lines don't change the exit status.
 
+`head advance N` and `box advance N` make up to N ticks in one call and tell
+` made M` at the line's end; `head tick N`, `box tick N` and `both tick N` tell
+of each tick that hands something out, and take no longer for many quiet ones.
+
   --proved  play on the proved library (the default)
   --plain   play on the independent program, written from the rules alone
   --help    this text";
