@@ -2,7 +2,7 @@
 
 use super::messages::{frame_for, For};
 use super::states::{any_box, box_lines};
-use super::values::{address, HEAD};
+use super::values::{address, ticks_ahead, HEAD};
 use crustnewt_tool::dice::Dice;
 use crustnewt_tool::replay::hex;
 use plain::FloorBox;
@@ -12,6 +12,8 @@ pub(crate) fn script(dice: &mut Dice) -> Vec<String> {
     let states = 1 + dice.below(4);
     for _ in 0..states {
         let floor_box = any_box(dice);
+        script.extend(box_lines(&floor_box));
+        script.push(advance(dice, &floor_box));
         script.extend(box_lines(&floor_box));
         let window = floor_box.light.window();
         if window > 0 {
@@ -27,17 +29,30 @@ pub(crate) fn script(dice: &mut Dice) -> Vec<String> {
 
 fn call(dice: &mut Dice, floor_box: &FloorBox) -> String {
     let now = floor_box.count;
-    match dice.below(12) {
+    match dice.below(13) {
         0 => "box register".to_owned(),
         1 => "box deregister".to_owned(),
         2 | 3 => next(dice, floor_box.light.window()),
         4..=6 => format!("box tick {}", ticks(dice)),
+        7 => advance(dice, floor_box),
         _ => {
             let random = dice.pick(&[0, 1, 100, 101, 250, u32::MAX, now.0]);
             let frame = frame_for(dice, For::Box, now, HEAD);
             format!("box hear {random} {}", hex(&frame))
         }
     }
+}
+
+fn advance(dice: &mut Dice, floor_box: &FloorBox) -> String {
+    let FloorBox {
+        wait,
+        watchdog,
+        report,
+        light,
+        ..
+    } = floor_box;
+    let ticks = ticks_ahead(dice, &[*wait, *watchdog, *report, light.left()]);
+    format!("box advance {ticks}")
 }
 
 /// Numbers of ticks at which phases begin and end.

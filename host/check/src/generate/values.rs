@@ -28,6 +28,33 @@ pub(crate) fn running(dice: &mut Dice, longest: u32) -> u32 {
     edgy(dice, longest).clamp(1, longest.max(1))
 }
 
+/// How far to advance where these timers run: about as far as one of them
+/// runs, near the ends of what one call may make, or somewhere else.
+pub(crate) fn ticks_ahead(dice: &mut Dice, timers: &[u32]) -> u64 {
+    let wide = [
+        0,
+        1,
+        2,
+        65_535,
+        65_536,
+        65_537,
+        (1 << 32) + 1,
+        (1 << 32) + 65_536,
+        u64::MAX,
+    ];
+    let running: Vec<u64> = { timers.iter() }
+        .filter(|left| **left > 0)
+        .map(|left| u64::from(*left))
+        .collect();
+    match dice.below(8) {
+        0 | 1 => dice.pick(&wide),
+        2 | 3 => 65_536,
+        4 => dice.below(700),
+        _ if running.is_empty() => 1 + dice.below(65_536),
+        _ => (dice.pick(&running) + dice.below(3)).saturating_sub(1),
+    }
+}
+
 /// A length or sync time that the wire can hold.
 pub(crate) fn quanta(dice: &mut Dice) -> u32 {
     let near = dice.pick(&[0, 10, 42, 73, 74, 75, 84, 174, 65_461, 65_462, 65_535]);
