@@ -43,6 +43,7 @@ fn call(dice: &mut Dice, floor_box: &FloorBox) -> String {
     }
 }
 
+/// By about as much as a timer runs or a grant is away.
 fn advance(dice: &mut Dice, floor_box: &FloorBox) -> String {
     let FloorBox {
         wait,
@@ -50,9 +51,11 @@ fn advance(dice: &mut Dice, floor_box: &FloorBox) -> String {
         report,
         light,
         ..
-    } = floor_box;
-    let ticks = ticks_ahead(dice, &[*wait, *watchdog, *report, light.left()]);
-    format!("box advance {ticks}")
+    } = *floor_box;
+    let mut ends = vec![wait, watchdog, report, light.left()];
+    let starts = floor_box.grants.as_slice().iter().map(|grant| grant.start);
+    ends.extend(starts.filter_map(|start| floor_box.count.ticks_until(start)));
+    format!("box advance {}", ticks_ahead(dice, &ends))
 }
 
 /// Numbers of ticks at which phases begin and end.

@@ -75,15 +75,15 @@ fn call(dice: &mut Dice, head: &Head, table: &[Link]) -> String {
 }
 
 fn advance(dice: &mut Dice, head: &Head, table: &[Link]) -> String {
-    let mut timers: Vec<u32> = match head.window {
+    let mut ends: Vec<u32> = match head.window {
         Window::Idle => vec![],
         Window::Before { left, length } => vec![left, left.wrapping_add(length)],
         Window::Inside { left } => vec![left],
     };
     for link in table {
-        timers.extend([link.wait, link.watchdog, link.periodic]);
+        ends.extend([link.wait, link.watchdog, link.periodic]);
     }
-    format!("head advance {}", ticks_ahead(dice, &timers))
+    format!("head advance {}", ticks_ahead(dice, &ends))
 }
 
 pub(crate) fn open(dice: &mut Dice, now: Count) -> String {

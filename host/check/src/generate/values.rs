@@ -28,9 +28,10 @@ pub(crate) fn running(dice: &mut Dice, longest: u32) -> u32 {
     edgy(dice, longest).clamp(1, longest.max(1))
 }
 
-/// How far to advance where these timers run: about as far as one of them
-/// runs, near the ends of what one call may make, or somewhere else.
-pub(crate) fn ticks_ahead(dice: &mut Dice, timers: &[u32]) -> u64 {
+/// How far to advance where something happens after so many ticks each (0:
+/// nothing does): about as far, near the ends of what one call may make, or
+/// somewhere else.
+pub(crate) fn ticks_ahead(dice: &mut Dice, ends: &[u32]) -> u64 {
     let wide = [
         0,
         1,
@@ -42,16 +43,14 @@ pub(crate) fn ticks_ahead(dice: &mut Dice, timers: &[u32]) -> u64 {
         (1 << 32) + 65_536,
         u64::MAX,
     ];
-    let running: Vec<u64> = { timers.iter() }
-        .filter(|left| **left > 0)
-        .map(|left| u64::from(*left))
-        .collect();
+    let ends = ends.iter().filter(|&&end| end > 0);
+    let ends: Vec<u64> = ends.map(|&end| u64::from(end)).collect();
     match dice.below(8) {
         0 | 1 => dice.pick(&wide),
         2 | 3 => 65_536,
         4 => dice.below(700),
-        _ if running.is_empty() => 1 + dice.below(65_536),
-        _ => (dice.pick(&running) + dice.below(3)).saturating_sub(1),
+        _ if ends.is_empty() => 1 + dice.below(65_536),
+        _ => dice.pick(&ends) + dice.below(3) - 1,
     }
 }
 
