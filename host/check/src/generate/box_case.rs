@@ -13,8 +13,9 @@ pub(crate) fn script(dice: &mut Dice) -> Vec<String> {
     for _ in 0..states {
         let floor_box = any_box(dice);
         script.extend(box_lines(&floor_box));
-        script.push(advance(dice, &floor_box));
-        script.extend(box_lines(&floor_box));
+        for _ in 0..2 {
+            script.extend(advance_and_back(dice, &floor_box));
+        }
         let window = floor_box.light.window();
         if window > 0 {
             script.push(next(dice, window));
@@ -41,6 +42,12 @@ fn call(dice: &mut Dice, floor_box: &FloorBox) -> String {
             format!("box hear {random} {}", hex(&frame))
         }
     }
+}
+
+/// Advances a box that holds this, and sets it back.
+pub(crate) fn advance_and_back(dice: &mut Dice, floor_box: &FloorBox) -> Vec<String> {
+    let advance = advance(dice, floor_box);
+    [advance].into_iter().chain(box_lines(floor_box)).collect()
 }
 
 /// By about as much as a timer runs or a grant is away.

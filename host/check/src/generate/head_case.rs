@@ -27,8 +27,9 @@ pub(crate) fn script(dice: &mut Dice) -> Vec<String> {
         let head = any_head(dice);
         let table = any_links(dice, links as usize);
         script.extend(lines(&head, &table));
-        script.push(advance(dice, &head, &table));
-        script.extend(lines(&head, &table));
+        for _ in 0..2 {
+            script.extend(advance_and_back(dice, &head, &table));
+        }
         let calls = 1 + dice.below(6);
         for _ in 0..calls {
             script.push(call(dice, &head, &table));
@@ -74,6 +75,13 @@ fn call(dice: &mut Dice, head: &Head, table: &[Link]) -> String {
     }
 }
 
+/// Advances a head that holds this, and sets it back.
+pub(crate) fn advance_and_back(dice: &mut Dice, head: &Head, table: &[Link]) -> Vec<String> {
+    let advance = advance(dice, head, table);
+    [advance].into_iter().chain(lines(head, table)).collect()
+}
+
+/// By about as much as a timer runs.
 fn advance(dice: &mut Dice, head: &Head, table: &[Link]) -> String {
     let mut ends: Vec<u32> = match head.window {
         Window::Idle => vec![],
