@@ -19,7 +19,7 @@ use Rattle.clock.specs.Timers.{passedOf as timerPassed, quietOf as timerQuiet}
 use Rattle.clock.specs.declared.Timer.{Timer}
 use Rattle.frame.specs.Card.{_unless_, given}
 use Rattle.frame.specs.declared.Reply.{Reply}
-use Rattle.frame.specs.declared.Reply.the-variants.{Grant, Output, Unsound}
+use Rattle.frame.specs.declared.Reply.the-variants as number
 use Rattle.head.specs.Head.{tickOf as headTick, soundOf as headSound, afterOf}
 use Rattle.head.specs.Laws.{head-tick, head-join}
 use Rattle.head.specs.declared.Head.{Head}
@@ -38,6 +38,7 @@ use Rattle.table.specs.Output.{Output, output, pasted, noteOf, noteLink, messag
 use Rattle.table.specs.declared.Event.{Event}
 use Rattle.table.specs.declared.Sender.{Sender}
 use Rattle.plans.specs.Plan.{refused, accepted}
+use Rattle.plans.specs.declared.Plan.{Plan}
 use Rattle.judging.specs.Judge.{lookOf, leapt, hasRoom}
 use Rattle.judging.specs.declared.Request.{Request}
 use Rattle.writer.specs.Write.{writeOf}
@@ -357,48 +358,48 @@ module _ (h : Head) (xs : List Link) (os : List ℕ) (r : Ready (stillAt h xs os
       )
       (leapt-is passing)
 
--- the promise of `serve` is the page's answer, whatever is handed in
-pub advance-page : (h : Head) (xs : List Link) (n : ℕ) (os : List ℕ) → serveOf h xs (Request.Advance n) os ≡ advancedOf h xs n os
-unfolding advancedOf
-advance-page h xs n os =
-    let sound = headSound h && soundTable xs in
-    let room = hasRoom (length xs) (length os) in
-    planned-so ∙ by sound refl room refl (inReach n) refl
-  where
-    abbrev tested : Bool → Bool → Bool → (Reply → Served) → Served → Served
-    tested s k i no yes = given (Unsound unless s ∷ Output unless k ∷ Grant unless i ∷ []) no yes
+-- the call is answered as the page has it, whatever is handed in
+module _ (h : Head) (xs : List Link) (n : ℕ) (os : List ℕ) where
+  abbrev refusal : Reply → Served
+  refusal x = served (telling x h) xs os
 
-    abbrev by-ticks : Served
-    by-ticks = let m = ticks again isDone isSilent out n (stillAt h xs os) 0 in withMade (m .made) (m .last)
+  abbrev tested : Bool → Bool → Bool → Served → Served
+  tested s k i r = given (number.Unsound unless s ∷ number.Output unless k ∷ number.Grant unless i ∷ []) refusal r
 
-    abbrev leap : Served
-    leap = doneOf (leapt h (min (known xs (Request.Advance n) .quiet) (n - 1))) xs os
+  abbrev leaping : Plan
+  leaping = leapt h (min (known xs (Request.Advance n) .quiet) (n - 1))
 
-    planned-so : serveOf h xs (Request.Advance n) os
-        ≡ tested (headSound h && soundTable xs) (hasRoom (length xs) (length os)) (inReach n) (λ x. served (telling x h) xs os) leap
-    unfolding serveOf
-    planned-so = rw (plan-is h xs (Request.Advance n) (length os)) (pick (headSound h && soundTable xs) (hasRoom (length xs) (length os)) (inReach n))
-      where
-        pick : (s k i : Bool)
-            → doneOf (given (Unsound unless s ∷ Output unless k ∷ Grant unless i ∷ []) (refused h) (leapt h (min (known xs (Request.Advance n) .quiet) (n - 1)))) xs os
-            ≡ tested s k i (λ x. served (telling x h) xs os) leap
-        pick false k i = done-refused h Unsound xs os
-        pick true false i = done-refused h Output xs os
-        pick true true false = done-refused h Grant xs os
-        pick true true true = refl
+  abbrev last : Served
+  last = let m = ticks again isDone isSilent out n (stillAt h xs os) 0 in withMade (m .made) (m .last)
 
-    by : (s : Bool) → (headSound h && soundTable xs) ≡ s → (k : Bool) → hasRoom (length xs) (length os) ≡ k → (i : Bool) → inReach n ≡ i
-        → tested s k i (λ x. served (telling x h) xs os) leap ≡ tested s k i (λ x. served (telling x h) xs os) by-ticks
-    by false e k f i g = refl
-    by true e false f i g = refl
-    by true e true f false g = refl
-    by true e true f true g =
-        let p = reach-parts n g in
-        let r = ready-of (stillAt h xs os) (rw (e, f)) in
-        let few = table-parts xs (r .sound .table) .0 in
-        let made = advance-is-ticks h xs os r n (p .0) (p .1) in
-        let call = serve-advance h xs os r n (p .0) (p .1) in
-        sym (rw (e, f, g) at planned-so) ∙ call ∙ ap (λ (m : Made). withMade (m .made) (m .last)) (sym made)
+  pick : (s k i : Bool) → doneOf (given (number.Unsound unless s ∷ number.Output unless k ∷ number.Grant unless i ∷ []) (refused h) leaping) xs os
+      ≡ tested s k i (doneOf leaping xs os)
+  pick false k i = done-refused h number.Unsound xs os
+  pick true false i = done-refused h number.Output xs os
+  pick true true false = done-refused h number.Grant xs os
+  pick true true true = refl
+
+  as-planned : serveOf h xs (Request.Advance n) os
+      ≡ tested (headSound h && soundTable xs) (hasRoom (length xs) (length os)) (inReach n) (doneOf leaping xs os)
+  unfolding serveOf
+  as-planned =
+      rw (plan-is h xs (Request.Advance n) (length os)) (pick (headSound h && soundTable xs) (hasRoom (length xs) (length os)) (inReach n))
+
+  as-made : (s : Bool) → (headSound h && soundTable xs) ≡ s → (k : Bool) → hasRoom (length xs) (length os) ≡ k → (i : Bool) → inReach n ≡ i
+      → tested s k i (doneOf leaping xs os) ≡ tested s k i last
+  as-made false e k f i g = refl
+  as-made true e false f i g = refl
+  as-made true e true f false g = refl
+  as-made true e true f true g =
+      let p = reach-parts n g in
+      let r = ready-of (stillAt h xs os) (rw (e, f)) in
+      sym (rw (e, f, g) at as-planned)
+      ∙ serve-advance h xs os r n (p .0) (p .1)
+      ∙ ap (λ (m : Made). withMade (m .made) (m .last)) (sym (advance-is-ticks h xs os r n (p .0) (p .1)))
+
+  pub advance-page : serveOf h xs (Request.Advance n) os ≡ advancedOf h xs n os
+  unfolding advancedOf
+  advance-page = as-planned ∙ as-made (headSound h && soundTable xs) refl (hasRoom (length xs) (length os)) refl (inReach n) refl
 
 -- quiet ticks, one and many
 module _ (h : Head) (xs : List Link) (os : List ℕ) (r : Ready (stillAt h xs os)) where
