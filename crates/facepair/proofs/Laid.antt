@@ -4,7 +4,7 @@ use Prim.Native.Nat.{ℕ, _≤_}
 use mathlib.Core.Path.{_≡_, refl, sym, ap, _∙_}
 use mathlib.Core.List.{List, [], _∷_, _++_}
 use native.Mathlib.Omega.{arith}
-use lib.ListN.{length, drop, getD, length-append, length-take, length-drop}
+use lib.ListN.{length, take, drop, getD, take-append-drop, length-append, length-take, length-drop}
 use lib.Seq.{drop-at}
 use Rattle.words.specs.Laws.{laid-over}
 use Rattle.words.specs.Words.{laid}
@@ -30,3 +30,11 @@ laid-twice s t d e h =
 -- the first word
 pub first-word : (k : ℕ) (d : List ℕ) → 1 ≤ length d → getD (laid (k ∷ []) d) 0 0 ≡ k
 first-word k d h = ap (λ (w : List ℕ). getD w 0 0) (laid-over (k ∷ []) d h)
+
+-- words that stand there already
+pub laid-own : (s d : List ℕ) (n : ℕ) → length s ≡ n → n ≤ length d → take n d ≡ s → laid s d ≡ d
+laid-own s d n e h f =
+    laid-over s d (omega arith)
+    ∙ ap (λ (k : ℕ). s ++ drop k d) e
+    ∙ ap (λ (w : List ℕ). w ++ drop n d) (sym f)
+    ∙ take-append-drop n d

@@ -6,7 +6,7 @@ use Prim.Native.Nat.{ℕ, zero, suc, _+_}
 use native.Mathlib.Omega.{arith}
 use lib.ListN.{replicate}
 use Rattle.pairlaw.specs.Run.{Answer, End, Holds, HasRegistered, Aged, stamp, olden, Moment, Event, both-tick, after, Allowed, play, Lawful, tally, ticks, Through, Start, Span, last, length-of, All-through, NoHalfOpen}
-use Rattle.pairlaw.specs.Advance.{Advance, untold, Alike, Singly, older, later, Step, event, both-advance, step, Allows, run, Runs, count, counts, Seen, singles, events-of, Reads, Program, first-seen, last-seen, ticks-made, Always, NoHalfOpenSeen}
+use Rattle.pairlaw.specs.Advance.{Advance, untold, Alike, Singly, older, Step, event, both-advance, step, Allows, Runs, count, Seen, singles, events-of, Reads, Program, first-seen, last-seen, ticks-made, Always, NoHalfOpenSeen}
 
 -- ages
 module _ {F : Type 0} where
