@@ -82,7 +82,7 @@ module _ (b : FloorBox) (n : ℕ) where
       subst (λ (y : Advanced). Unchanged b (y .answer) × (y .made ≡ 0)) (sym e) (refused-unchanged core.tick b no, refl)
   refused-by x (makes s d l h) k = absurd (k (eqb-true (numberOf (x .answer .reply)) 0 d))
 
-  far-is : soundOf b ≡ true → inReach n ≡ false → advanceOf b n ≡ out (refused b Grant) 0
+  pub far-is : soundOf b ≡ true → inReach n ≡ false → advanceOf b n ≡ out (refused b Grant) 0
   unfolding advanceOf
   far-is s i = rw (s, i)
 

@@ -218,6 +218,12 @@ module _ (A : Address) (block : List ℕ) (g : Good A block) (l : Lent) where
             rw made-is (omega (arith, c .counted, c .few)),
           )
 
+      pub advance-there : Good A (boxAdvance block asked .call .block) × (boxAt (boxAdvance block asked .call .block) ≡ advancing n b .next)
+      advance-there =
+          let f = x-comes .fine in
+          let at : boxAdvance block asked .call .block ≡ laid (boxWords (x .answer .next)) block = ap (λ (a : run.Answer (List ℕ) (List ℕ)). a .next) shown-is in
+          (subst (Good A) (sym at) (at-good (x .answer) f), ap boxAt at ∙ is (x .answer) f)
+
       advance-singly : Singly (BoxWords A) (Alike (BoxWords A) block) l (BoxAdvances A .made block asked) (untold (BoxWords A) block) (BoxAdvances A .advance block asked)
       advance-singly =
           let c = x-comes in
@@ -228,13 +234,13 @@ module _ (A : Address) (block : List ℕ) (g : Good A block) (l : Lent) where
 
 -- one that is answered 0 was lent enough, and asked for a number in reach
 module _ (A : Address) (block : List ℕ) (g : Good A block) (q : BoxAsked) where
-  abbrev enough : Bool
+  abbrev pub enough : Bool
   enough = isLent (length block) (length (q .lent .frames)) (length (q .lent .reply)) && leb 1 (length (q .made))
 
   short : enough ≡ false → boxAdvance block q .call .number ≡ 100
   short e = ap (λ (y : AdvanceLeft). y .call .number) (as-short (q .ticks) block (q .lent .frames) (q .lent .reply) (q .made) e)
 
-  number : enough ≡ true → boxAdvance block q .call .number ≡ numberOf (advancing (q .ticks) (boxAt block) .reply)
+  pub number : enough ≡ true → boxAdvance block q .call .number ≡ numberOf (advancing (q .ticks) (boxAt block) .reply)
   number e =
       let p = and-eq-true-iff (isLent (length block) (length (q .lent .frames)) (length (q .lent .reply))) (leb 1 (length (q .made))) .0 e in
       ap (λ (y : AdvanceLeft). y .call .number) (as-call (q .ticks) block (q .lent .frames) (q .lent .reply) (q .made) (p .0) (p .1))
