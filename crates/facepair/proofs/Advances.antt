@@ -1,6 +1,6 @@
 -- Programs that advance head and box are runs of single ticks, and demand 3 holds of what they see.
 -- Assumes nothing.
-use Prim.Native.Nat.{ℕ, _*_, _≤_}
+use Prim.Native.Nat.{ℕ, _+_, _*_, _≤_}
 use mathlib.Core.Path.{_≡_}
 use mathlib.Core.List.{List}
 use borrow.Author.Tests.{le-leb}
@@ -11,15 +11,18 @@ use Rattle.headwords.specs.Laws.{length-links}
 use Rattle.headwords.specs.Table.{linksIn, linksAt}
 use Rattle.pairlaw.specs.Run.{last}
 use Rattle.pairlaw.proofs.Advance.{Made, reads, seen-demand}
-use Rattle.facepair.specs.Advances.{BoxAdvances, HeadAdvances, WordsAdvance, WordsAdvanceDemand3, Makes, WordsAdvances}
+use Rattle.pairlaw.proofs.Programs.{box-drops-runs, head-drops-runs, box-waits-runs, head-waits-runs}
+use Rattle.facepair.specs.Advances.{BoxAdvances, HeadAdvances, WordsAdvance, WordsAdvanceDemand3, WordsAdvanceExact, Makes, WordsAdvances}
 use Rattle.facepair.specs.Box.{BoxWords}
 use Rattle.facepair.specs.Demand.{WordsDemand3}
+use Rattle.facepair.specs.Exact.{WordsExact}
 use Rattle.facepair.specs.Head as head
 use Rattle.facepair.specs.Head.{HeadWords}
 use Rattle.facepair.proofs.Box as boxes
 use Rattle.facepair.proofs.BoxAdvance as box-advance
 use Rattle.facepair.proofs.BoxAdvance.{box-singly}
 use Rattle.facepair.proofs.Demand.{words-demand-3}
+use Rattle.facepair.proofs.Exact.{words-exact}
 use Rattle.facepair.proofs.Head as heads
 use Rattle.facepair.proofs.HeadAdvance as head-advance
 use Rattle.facepair.proofs.HeadAdvance.{head-singly}
@@ -44,6 +47,17 @@ pub words-advance-demand-3 : WordsAdvanceDemand3
 unfolding WordsAdvanceDemand3 WordsDemand3
 words-advance-demand-3 A D =
     seen-demand (HeadWords A) (BoxWords A) (HeadAdvances A) (BoxAdvances A) heads.Good (boxes.Good A) D (owed A D) watchdog wait (words-demand-3 A D)
+
+pub words-advance-exact : WordsAdvanceExact
+unfolding WordsAdvanceExact WordsExact
+words-advance-exact A i D =
+    let x = words-exact A i D in
+    record {
+      box-drops = λ f. x .box-drops (box-drops-runs (HeadWords A) (BoxWords A) (HeadAdvances A) (BoxAdvances A) D (D + 62_499_999) f);
+      head-drops = λ f. x .head-drops (head-drops-runs (HeadWords A) (BoxWords A) (HeadAdvances A) (BoxAdvances A) D (D + 62_499_999) f);
+      box-wait = λ f. x .box-wait (box-waits-runs (HeadWords A) (BoxWords A) (HeadAdvances A) (BoxAdvances A) D 3_124_999 f);
+      head-wait = λ f. x .head-wait (head-waits-runs (HeadWords A) (BoxWords A) (HeadAdvances A) (BoxAdvances A) D 3_124_999 f);
+    }
 
 makes : (A : Address) (w : head.Words) (block : List ℕ) → heads.Good w → boxes.Good A block → Makes A w block
 makes A w block g k =

@@ -1,16 +1,17 @@
 -- A C program that advances head and box by several ticks in one call each: its calls are a run of single ticks of both, and demand 3 holds of
 -- the words that it sees. How a program is read as a run is pairlaw's specs/Advance.antt.
 -- Assumes nothing.
-use Prim.Native.Nat.{ℕ, _*_, _≤_}
+use Prim.Native.Nat.{ℕ, _+_, _*_, _≤_}
 use mathlib.Core.Path.{_≡_}
 use mathlib.Core.Bool.{true}
 use mathlib.Core.List.{List}
 use lib.ListN.{length, getD}
 use Rattle.clock.specs.Numbers.{watchdog, wait, inReach}
 use Rattle.frame.specs.declared.Address.{Address}
+use Rattle.range.specs.Fits.{isIndividual}
 use Rattle.headwords.specs.Table.{linksIn}
 use Rattle.pairlaw.specs.Run.{Span, last}
-use Rattle.pairlaw.specs.Advance.{Advance, Step, Runs, Reads, NoHalfOpenSeen}
+use Rattle.pairlaw.specs.Advance.{Advance, Step, Runs, Reads, BoxDropsSeen, HeadDropsSeen, BoxWaitsSeen, HeadWaitsSeen, NoHalfOpenSeen}
 use Rattle.boxcall.specs.Calls as boxcall
 use Rattle.headcall.specs.Calls as headcall
 use Rattle.facepair.specs.Box as box
@@ -71,6 +72,16 @@ WordsAdvance =
 -- calls.
 unfoldable pub WordsAdvanceDemand3 : Type 0
 WordsAdvanceDemand3 = (A : Address) (D : ℕ) → NoHalfOpenSeen (HeadWords A) (BoxWords A) (HeadAdvances A) (BoxAdvances A) D watchdog wait
+
+-- and its numbers are exact of them too: with one tick less each claim is false
+pub record OneTickLessSeen (A : Address) (D : ℕ) : Type 0 where
+  pub box-drops : ¬ BoxDropsSeen (HeadWords A) (BoxWords A) (HeadAdvances A) (BoxAdvances A) D (D + 62_499_999)
+  pub head-drops : ¬ HeadDropsSeen (HeadWords A) (BoxWords A) (HeadAdvances A) (BoxAdvances A) D (D + 62_499_999)
+  pub box-wait : ¬ BoxWaitsSeen (HeadWords A) (BoxWords A) (HeadAdvances A) (BoxAdvances A) D 3_124_999
+  pub head-wait : ¬ HeadWaitsSeen (HeadWords A) (BoxWords A) (HeadAdvances A) (BoxAdvances A) D 3_124_999
+
+unfoldable pub WordsAdvanceExact : Type 0
+WordsAdvanceExact = (A : Address) → isIndividual A ≡ true → (D : ℕ) → OneTickLessSeen A D
 
 -- At the end of every span an advance by 1 to 65,536 ticks that lends what the header says is done; it makes at least one tick and no more than
 -- it was asked for.

@@ -123,10 +123,23 @@ module _ {Up Down : Type 0} (Head : End Up Down) (Box : End Down Up) where
       abbrev pub Always : (Moment Head Box → Type 0) → Type 0
       Always P = Seen P first-seen (x .steps)
 
-    -- DEMAND 3 of programs, as Run.antt has it of runs; what must hold all the time need only hold where the program sees it
+    -- The claims of Run.antt, of programs: what must hold all the time need only hold where the program sees it.
+    module _ (D n : ℕ) where
+      abbrev pub BoxDropsSeen : Type 0
+      BoxDropsSeen = (x : Program D) → n ≤ ticks-made x → Always x (λ m. ¬ Holds Head (m .head)) → ¬ HasRegistered Box (last-seen x .box)
+
+      abbrev pub HeadDropsSeen : Type 0
+      HeadDropsSeen = (x : Program D) → n ≤ ticks-made x → Always x (λ m. ¬ HasRegistered Box (m .box)) → ¬ HasRegistered Head (last-seen x .head)
+
+      abbrev pub BoxWaitsSeen : Type 0
+      BoxWaitsSeen = (x : Program D) (p : Box .Place) → Always x (λ m. Box .Waiting (m .box) p) → ticks-made x < n
+
+      abbrev pub HeadWaitsSeen : Type 0
+      HeadWaitsSeen = (x : Program D) (p : Head .Place) → Always x (λ m. Head .Waiting (m .head) p) → ticks-made x < n
+
+    -- DEMAND 3 of programs
     pub record NoHalfOpenSeen (D W T : ℕ) : Type 0 where
-      pub box-drops : (x : Program D) → D + W ≤ ticks-made x → Always x (λ m. ¬ Holds Head (m .head)) → ¬ HasRegistered Box (last-seen x .box)
-      pub head-drops : (x : Program D) → D + W ≤ ticks-made x → Always x (λ m. ¬ HasRegistered Box (m .box))
-          → ¬ HasRegistered Head (last-seen x .head)
-      pub box-wait : (x : Program D) (p : Box .Place) → Always x (λ m. Box .Waiting (m .box) p) → ticks-made x < T
-      pub head-wait : (x : Program D) (p : Head .Place) → Always x (λ m. Head .Waiting (m .head) p) → ticks-made x < T
+      pub box-drops : BoxDropsSeen D (D + W)
+      pub head-drops : HeadDropsSeen D (D + W)
+      pub box-wait : BoxWaitsSeen D T
+      pub head-wait : HeadWaitsSeen D T
