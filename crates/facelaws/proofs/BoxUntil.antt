@@ -8,7 +8,7 @@ use mathlib.Core.Logic.{_⊎_, inl, inr, ⊎-elim}
 use native.Mathlib.Omega.{arith}
 use borrow.Author.Tests.{leb-true, le-leb, ltb-true, eqb-true}
 use lib.Dec.{eqb, leb, ltb}
-use lib.ListN.{length, take, getD}
+use lib.ListN.{length, take, replicate, getD}
 use lib.Seq.{getD-take}
 use Rattle.laws.specs.Cases.{either, decided, cut}
 use Rattle.clock.specs.Laws.{quiet-off, quiet-on}
@@ -41,7 +41,9 @@ use Rattle.words.specs.Words.{laid}
 use Rattle.boxwords.specs.Box.{stateWord, lightWords, frontWords, boxWords}
 use Rattle.boxwords.specs.Told.{listed, toldWords}
 use Rattle.boxcall.specs.Calls.{AdvanceLeft, advanceLeft, boxAt, toldOf, handed, settled, advanceCall, untilCall}
-use Rattle.facelaws.specs.Until.{BoxPasses, BoxUntil, Ends, BoxUntilEnds}
+use Rattle.facelaws.specs.Advance.{BoxAdvance}
+use Rattle.facelaws.specs.Until.{BoxPasses, BoxUntil, BoxUntilSound, Ends, BoxUntilEnds}
+use Rattle.facelaws.proofs.BoxAdvance.{box-advance}
 use Rattle.facelaws.proofs.BoxStands.{lent, only}
 
 -- NO MORE THAN AN ADVANCE MAY MAKE: in each state some timer of the registration is off
@@ -146,6 +148,17 @@ module _ (block frames reply made : List ℕ) (k : ℕ) (a : 120 ≤ length fram
 pub box-until : BoxUntil
 unfolding BoxUntil
 box-until block = (until-far block, passes block)
+
+-- an advance by one, in memory of its own, is not 13
+pub box-until-sound : BoxUntilSound
+unfolding BoxUntilSound BoxAdvance
+box-until-sound block h =
+    let frames : List ℕ = replicate 120 0 in
+    let reply : List ℕ = replicate 19 0 in
+    let made : List ℕ = 0 ∷ [] in
+    let p = passes block frames reply made 1 (omega arith) (omega arith) (omega arith) (omega arith) h in
+    box-advance 1 block frames reply made .judged (until-long block h, omega arith, omega arith, omega arith) .1
+    (λ (z : advanceCall 1 block frames reply made .call .number ≡ 13). omega (arith, p .done, z))
 
 -- WHAT ENDS THEM
 least : (a b u : ℕ) → min a b ≡ u → (a ≡ u) ⊎ (b ≡ u)

@@ -7,7 +7,7 @@ use mathlib.Core.List.{List, [], _∷_}
 use native.Mathlib.Omega.{arith}
 use borrow.Author.Tests.{leb-true, le-leb, eq-eqb}
 use lib.Dec.{leb}
-use lib.ListN.{length, getD}
+use lib.ListN.{length, replicate, getD, length-replicate}
 use mathlib.Core.Logic.{⊎-elim}
 use Rattle.laws.specs.Cases.{either, cut}
 use Rattle.clock.specs.Numbers.{furthestAdvance}
@@ -30,13 +30,13 @@ use Rattle.words.specs.Words.{laid}
 use Rattle.headwords.specs.Laws.{length-links}
 use Rattle.headwords.specs.Table.{linksIn, linksAt}
 use Rattle.headwords.specs.Told.{noticeWords, toldWords}
-use Rattle.headcall.specs.Calls.{AdvanceLeft, advanceLeft, headAt, handed, advanceCall, quietOf, untilCall}
-use Rattle.facelaws.specs.Head.{HeadRepacked}
-use Rattle.facelaws.specs.Until.{HeadPasses, HeadUntil, HeadSends, HeadUntilEnds}
+use Rattle.headcall.specs.Calls.{Left, AdvanceLeft, advanceLeft, headAt, handed, servedOf, advanceCall, quietOf, untilCall}
+use Rattle.facelaws.specs.Head.{HeadJudged, HeadRepacked}
+use Rattle.facelaws.specs.Until.{HeadPasses, HeadUntil, HeadUntilSound, HeadSends, HeadUntilEnds}
 use Rattle.facelaws.proofs.BoxUntil.{in-reach}
-use Rattle.facelaws.proofs.HeadAdvance.{as-handed}
+use Rattle.facelaws.proofs.HeadAdvance.{as-request, as-handed}
 use Rattle.facelaws.proofs.HeadCalls.{told-number}
-use Rattle.facelaws.proofs.HeadStands.{enough, head-repacked}
+use Rattle.facelaws.proofs.HeadStands.{enough, head-judged, head-repacked}
 
 table-far : (xs : List Link) → quietAll xs ≤ furthestAdvance
 table-far [] = omega arith
@@ -161,6 +161,20 @@ pub head-until : HeadUntil
 unfolding HeadUntil
 head-until head links =
     (until-far head links, λ output reply made k room a d lo hi. passes head links output reply made (calm head links (omega arith)) room a d k lo hi)
+
+-- an advance by one, in memory of its own, is not 13
+pub head-until-sound : HeadUntilSound
+unfolding HeadUntilSound HeadJudged
+head-until-sound head links some =
+    let c = calm head links some in
+    let output : List ℕ = replicate (60 * linksIn (length links)) 0 in
+    let reply : List ℕ = replicate 5 0 in
+    let made : List ℕ = 0 ∷ [] in
+    let room : 60 * linksIn (length links) ≤ length output = omega (arith, length-replicate {A = ℕ} (60 * linksIn (length links)) 0) in
+    let p = passes head links output reply made c room (omega arith) (omega arith) 1 (omega arith) some in
+    let is = as-request 1 head links output reply made (le-leb 1 (length made) (omega arith)) in
+    head-judged (Request.Advance 1) head links output reply (c .long) (omega arith) .1
+    (λ (z : servedOf (Request.Advance 1) head links output reply .number ≡ 13). omega (arith, p .done, ap (λ (l : Left). l .number) is, z))
 
 pub head-until-ends : HeadUntilEnds
 unfolding HeadUntilEnds HeadRepacked

@@ -28,6 +28,10 @@ BoxUntil =
     × ((frames reply made : List ℕ) (k : ℕ) → 120 ≤ length frames → 19 ≤ length reply → 1 ≤ length made → 1 ≤ k → k ≤ boxcall.untilCall block
     → BoxPasses k block frames reply made)
 
+-- there are none of words that no sound box has, to which every call is 13
+unfoldable pub BoxUntilSound : Type 0
+BoxUntilSound = (block : List ℕ) → 1 ≤ boxcall.untilCall block → Stand block
+
 -- what ends them, after u: the wait, the watchdog, the report's or the transmitter's timer has one tick more to run, or the box chooses a grant
 -- at the next tick, as it does in REGISTERED with its transmitter at rest and a grant in its list
 abbrev pub Ends : ℕ → List ℕ → Type 0
@@ -53,6 +57,9 @@ HeadUntil =
     → (headcall.untilCall head links ≤ 65536)
     × ((output reply made : List ℕ) (k : ℕ) → 60 * linksIn (length links) ≤ length output → 5 ≤ length reply → 1 ≤ length made
     → 1 ≤ k → k ≤ headcall.untilCall head links → HeadPasses k head links output reply made)
+
+unfoldable pub HeadUntilSound : Type 0
+HeadUntilSound = (head links : List ℕ) → 1 ≤ headcall.untilCall head links → stands.Stand head links
 
 -- and exact: where head and table are sound, the tick after u hands out a frame, as word 0 of the reply says
 pub record HeadSends (u : ℕ) (head links output reply made : List ℕ) : Type 0 where

@@ -70,6 +70,10 @@ module _ (A : Address) (block : List ℕ) (g : Good A block) (l : Lent) where
         sent = core.framesIn (r .frames .number) (r .frames);
       }
 
+  -- single ticks over words that are like the first
+  abbrev Chain : ℕ → run.Answer (List ℕ) (List ℕ) → run.Answer (List ℕ) (List ℕ) → Type 0
+  Chain k a c = Singly (BoxWords A) (Alike (BoxWords A) block) l k a c
+
   -- what holds of each on the way
   record Fine (r : Answer) : Type 0 where
     ok : Ok A (r .next)
@@ -145,7 +149,7 @@ module _ (A : Address) (block : List ℕ) (g : Good A block) (l : Lent) where
       counted : x .made ≡ m + made
       few : made ≤ j
       fine : Fine (x .answer)
-      singly : Singly (BoxWords A) (Alike (BoxWords A) block) l made (shown r) (shown (x .answer))
+      singly : Chain made (shown r) (shown (x .answer))
 
     stops : (j : ℕ) (r : Answer) (m : ℕ) → Fine r → Comes j r m (out r m)
     stops j r m f = record { made = 0; counted = omega arith; few = omega arith; fine = f; singly = refl }
@@ -166,8 +170,7 @@ module _ (A : Address) (block : List ℕ) (g : Good A block) (l : Lent) where
             alike A block (at r f) g (at-good r f) (ap stateOf (is r f) ∙ f .still s),
             none-sent r s,
             ap (λ (a : run.Answer (List ℕ) (List ℕ)). a .reply) (ticked r f) ∙ tick-done A (r .next) (f .ok),
-            subst (λ (a : run.Answer (List ℕ) (List ℕ)). Singly (BoxWords A) (Alike (BoxWords A) block) l (c .made) a (shown (boxTicks j (again r) (m + 1) .answer)))
-                (sym (ticked r f)) (c .singly),
+            subst (λ (a : run.Answer (List ℕ) (List ℕ)). Chain (c .made) a (shown (boxTicks j (again r) (m + 1) .answer))) (sym (ticked r f)) (c .singly),
           );
         }))
         (λ (s : isSilent r ≡ false).
@@ -224,13 +227,13 @@ module _ (A : Address) (block : List ℕ) (g : Good A block) (l : Lent) where
           let at : boxAdvance block asked .call .block ≡ laid (boxWords (x .answer .next)) block = ap (λ (a : run.Answer (List ℕ) (List ℕ)). a .next) shown-is in
           (subst (Good A) (sym at) (at-good (x .answer) f), ap boxAt at ∙ is (x .answer) f)
 
-      advance-singly : Singly (BoxWords A) (Alike (BoxWords A) block) l (BoxAdvances A .made block asked) (untold (BoxWords A) block) (BoxAdvances A .advance block asked)
+      advance-singly : Chain (BoxAdvances A .made block asked) (untold (BoxWords A) block) (BoxAdvances A .advance block asked)
       advance-singly =
           let c = x-comes in
           let k : c .made ≡ BoxAdvances A .made block asked = omega (arith, c .counted, made-is) in
-          subst (λ (a : run.Answer (List ℕ) (List ℕ)). Singly (BoxWords A) (Alike (BoxWords A) block) l (BoxAdvances A .made block asked) (untold (BoxWords A) block) a) (sym shown-is)
-          (subst (λ (a : run.Answer (List ℕ) (List ℕ)). Singly (BoxWords A) (Alike (BoxWords A) block) l (BoxAdvances A .made block asked) a (shown (x .answer))) shown-start
-          (subst (λ (m : ℕ). Singly (BoxWords A) (Alike (BoxWords A) block) l m (shown (bare b Done)) (shown (x .answer))) k (c .singly)))
+          subst (Chain (BoxAdvances A .made block asked) (untold (BoxWords A) block)) (sym shown-is)
+          (subst (λ (a : run.Answer (List ℕ) (List ℕ)). Chain (BoxAdvances A .made block asked) a (shown (x .answer))) shown-start
+          (subst (λ (m : ℕ). Chain m (shown (bare b Done)) (shown (x .answer))) k (c .singly)))
 
 -- one that is answered 0 was lent enough, and asked for a number in reach
 module _ (A : Address) (block : List ℕ) (g : Good A block) (q : BoxAsked) where

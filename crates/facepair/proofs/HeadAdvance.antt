@@ -78,20 +78,21 @@ alike A w t g h u =
           carried (head-tells A .waiting w g n) (head-tells A .waiting t h n) ((λ k. x ∙ k), (λ k. sym x ∙ k));
     }
 
--- a request that is done, over words
+-- an answer of the core, laid over words
+abbrev shownIn : Words → Served → run.Answer Words (List ℕ)
+shownIn w t =
+    record {
+      reply = numberOf (t .answer .reply);
+      next = record { head = laid (headWords (t .answer .next)) (w .head); links = laid (tableWords (t .table)) (w .links) };
+      sent = framesIn (t .answer .frames) (t .octets);
+    }
+
+-- is what a request leaves that is done
 module _ (r : Request) (w : Words) (l : Lent) (e : isLent (length (w .head)) (length (l .reply)) ≡ true) where
   abbrev x : Served
   x = serveOf (headAt (w .head)) (linksAt (w .links)) r (l .output)
 
-  abbrev laid-over : Served → Words → run.Answer Words (List ℕ)
-  laid-over s v =
-      record {
-        reply = numberOf (s .answer .reply);
-        next = record { head = laid (headWords (s .answer .next)) (v .head); links = laid (tableWords (s .table)) (v .links) };
-        sent = framesIn (s .answer .frames) (s .octets);
-      }
-
-  laid-is : isDone (x .answer .reply) ≡ true → answered (served w r l) ≡ laid-over x w
+  laid-is : isDone (x .answer .reply) ≡ true → answered (served w r l) ≡ shownIn w x
   unfolding handed keptHead keptLinks laidHead
   laid-is n =
       let at = is-handed r (w .head) (w .links) (l .output) (l .reply) e in
@@ -115,14 +116,12 @@ module _ (A : Address) (w : Words) (g : Good w) (l : Lent) where
   abbrev s : Served
   s = stillAt (headAt (w .head)) xs (l .output)
 
-  -- what the core leaves, over the words
   abbrev shown : Served → run.Answer Words (List ℕ)
-  shown t =
-      record {
-        reply = numberOf (t .answer .reply);
-        next = record { head = laid (headWords (t .answer .next)) (w .head); links = laid (tableWords (t .table)) (w .links) };
-        sent = framesIn (t .answer .frames) (t .octets);
-      }
+  shown t = shownIn w t
+
+  -- single ticks over words that are like the first
+  abbrev Chain : ℕ → run.Answer Words (List ℕ) → run.Answer Words (List ℕ) → Type 0
+  Chain k a b = Singly (HeadWords A) (Alike (HeadWords A) w) l k a b
 
   shown-start : shown s ≡ untold (HeadWords A) w
   shown-start =
@@ -179,7 +178,7 @@ module _ (A : Address) (w : Words) (g : Good w) (l : Lent) where
           (omega (arith, head-size (t .answer .next), g .room)) in
           let k : laid (tableWords (y .table)) (at .links) ≡ laid (tableWords (y .table)) (w .links) =
           laid-twice (tableWords (y .table)) (tableWords (t .table)) (w .links) b (omega (arith, a, links-few (length (w .links)) .1)) in
-          laid-is Request.Tick at l u d ∙ ap (λ (z : Served). laid-over Request.Tick at l u z at) same ∙ rw (h, k)
+          laid-is Request.Tick at l u d ∙ ap (shownIn at) same ∙ rw (h, k)
 
     -- quiet ticks
     leap-is : (j : ℕ) → leapOf j s ≡ stillAt (leapOf j s .answer .next) (passedAll xs j) (l .output)
@@ -223,7 +222,7 @@ module _ (A : Address) (w : Words) (g : Good w) (l : Lent) where
     -- so many of them, and one more
     module _ (p : ℕ) (h : p ≤ quietAll xs) where
       abbrev Leads : ℕ → run.Answer Words (List ℕ) → Type 0
-      Leads k a = Singly (HeadWords A) (Alike (HeadWords A) w) l k a (shown (again (leapOf p s)))
+      Leads k a = Chain k a (shown (again (leapOf p s)))
 
       made-of : (j : ℕ) → j ≤ quietAll xs
           → Alike (HeadWords A) w (shown (leapOf j s) .next)
@@ -291,14 +290,14 @@ module _ (A : Address) (w : Words) (g : Good w) (l : Lent) where
         rw made-is (omega (arith, lo)),
       )
 
-      advance-singly : Singly (HeadWords A) (Alike (HeadWords A) w) l (HeadAdvances A .made w asked) (untold (HeadWords A) w) (HeadAdvances A .advance w asked)
+      advance-singly : Chain (HeadAdvances A .made w asked) (untold (HeadWords A) w) (HeadAdvances A .advance w asked)
       unfolding leapOf
       advance-singly =
           let c = leads k (omega arith) k 0 (omega arith) in
           let m : suc k ≡ HeadAdvances A .made w asked = omega (arith, made-is) in
-          subst (λ (a : run.Answer Words (List ℕ)). Singly (HeadWords A) (Alike (HeadWords A) w) l (HeadAdvances A .made w asked) (untold (HeadWords A) w) a) (sym shown-is)
-          (subst (λ (a : run.Answer Words (List ℕ)). Singly (HeadWords A) (Alike (HeadWords A) w) l (HeadAdvances A .made w asked) a (shown (again (leapOf k s)))) shown-start
-          (subst (λ (q : ℕ). Singly (HeadWords A) (Alike (HeadWords A) w) l q (shown s) (shown (again (leapOf k s)))) m c))
+          subst (Chain (HeadAdvances A .made w asked) (untold (HeadWords A) w)) (sym shown-is)
+          (subst (λ (a : run.Answer Words (List ℕ)). Chain (HeadAdvances A .made w asked) a (shown (again (leapOf k s)))) shown-start
+          (subst (λ (n : ℕ). Chain n (shown s) (shown (again (leapOf k s)))) m c))
 
 -- one that is answered 0 was lent enough, and asked for a number in reach
 module _ (A : Address) (w : Words) (g : Good w) (q : HeadAsked) where

@@ -6,7 +6,7 @@ use Prim.Native.Nat.{ℕ, zero, suc, _+_}
 use native.Mathlib.Omega.{arith}
 use lib.ListN.{replicate}
 use Rattle.pairlaw.specs.Run.{Answer, End, Holds, HasRegistered, Aged, stamp, olden, Moment, Event, both-tick, after, Allowed, play, Lawful, tally, ticks, Through, Start, Span, last, length-of, All-through, NoHalfOpen}
-use Rattle.pairlaw.specs.Advance.{Advance, untold, Alike, Singly, older, Step, event, both-advance, step, Allows, Runs, count, Seen, singles, events-of, Reads, Program, first-seen, last-seen, ticks-made, Always, NoHalfOpenSeen}
+use Rattle.pairlaw.specs.Advance.{Advance, untold, Alike, Singly, older, later, Step, event, both-advance, step, Allows, Runs, count, Seen, singles, events-of, Reads, Program, first-seen, last-seen, ticks-made, Always, NoHalfOpenSeen}
 
 -- ages
 module _ {F : Type 0} where
@@ -97,6 +97,15 @@ module _ {Up Down : Type 0} (Head : End Up Down) (Box : End Down Up) where
         ∙ play-both k (Head .tick (x .next) h) xs (Box .tick (y .next) b) ys (map olden d) (map olden u) (s .3) (t .3)
         ∙ rw (older-next k d, older-next k u)
 
+    -- the law: single ticks of both ends, as many of each, are so many ticks of a run
+    pub jointly : (k : ℕ) (m : M) (xs : AH) (ys : AB) → Singly Head LH h k (untold Head (m .head)) xs → Singly Box LB b k (untold Box (m .box)) ys
+        → Lawful Head Box D m (both k) × (play Head Box m (both k) ≡ later Head Box k m xs ys) × (ticks Head Box (both k) ≡ k)
+    jointly k m xs ys s t = (
+      lawful-both k (untold Head (m .head)) xs (untold Box (m .box)) ys (m .down) (m .up) s t,
+      play-both k (untold Head (m .head)) xs (untold Box (m .box)) ys (m .down) (m .up) s t,
+      ticks-both k,
+    )
+
     -- what holds of all moments that are like the first, and at the end
     through-both : (P : M → Type 0) → ((m : M) → LH (m .head) → LB (m .box) → P m)
         → (k : ℕ) (x xs : AH) (y ys : AB) (d : List (Aged Down)) (u : List (Aged Up)) → Singly Head LH h k x xs → Singly Box LB b k y ys
@@ -155,13 +164,10 @@ module _ {Up Down : Type 0} (Head : End Up Down) (Box : End Down Up) where
 
         one-advance : One m (both-advance h b)
         one-advance =
-            let like = Alike Head (m .head) in
-            let liked = Alike Box (m .box) in
-            record {
-              lawful = lawful-both D (HA .lent h) (BA .lent b) like liked k (untold Head (m .head)) _ (untold Box (m .box)) _ (m .down) (m .up) head-singly box-singly;
-              same = play-both D (HA .lent h) (BA .lent b) like liked k (untold Head (m .head)) _ (untold Box (m .box)) _ (m .down) (m .up) head-singly box-singly;
-              counted = λ n. ap (λ (i : ℕ). i + n) (ticks-both D (HA .lent h) (BA .lent b) like liked k);
-            }
+            let j =
+            jointly D (HA .lent h) (BA .lent b) (Alike Head (m .head)) (Alike Box (m .box)) k m (HA .advance (m .head) h) (BA .advance (m .box) b)
+            head-singly box-singly in
+            record { lawful = j .0; same = j .1; counted = λ n. ap (λ (i : ℕ). i + n) (j .2) }
 
       one : (m : M) (s : St) → Goods m → Allows Head Box HA BA D m s → One m s
       one m (event e) g a = one-event m e a
