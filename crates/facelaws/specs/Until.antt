@@ -1,5 +1,4 @@
--- How many ticks are sure to be done and to hand out nothing (`untilCall` of boxcall's and headcall's specs/Calls.antt): what a program may
--- take from the number.
+-- How many ticks are sure to be done and to hand out nothing (`untilCall` of the box and of the head): what a program may take from the number.
 -- Assumes nothing.
 use Prim.Native.Nat.{ℕ, _+_, _*_, _≤_, _<_}
 use mathlib.Core.Path.{_≡_}
@@ -9,7 +8,9 @@ use lib.ListN.{length, getD}
 use Rattle.words.specs.Words.{laid}
 use Rattle.headwords.specs.Table.{linksIn}
 use Rattle.boxcall.specs.Calls as boxcall
+use Rattle.boxcall.specs.Calls.{untilCall as boxUntil}
 use Rattle.headcall.specs.Calls as headcall
+use Rattle.headcall.specs.Calls.{untilCall as headUntil}
 use Rattle.facelaws.specs.Box.{Stand}
 use Rattle.facelaws.specs.Head as stands
 
@@ -24,13 +25,13 @@ pub record BoxPasses (k : ℕ) (block frames reply made : List ℕ) : Type 0 whe
 unfoldable pub BoxUntil : Type 0
 BoxUntil =
     (block : List ℕ)
-    → (boxcall.untilCall block ≤ 65536)
-    × ((frames reply made : List ℕ) (k : ℕ) → 120 ≤ length frames → 19 ≤ length reply → 1 ≤ length made → 1 ≤ k → k ≤ boxcall.untilCall block
+    → (boxUntil block ≤ 65536)
+    × ((frames reply made : List ℕ) (k : ℕ) → 120 ≤ length frames → 19 ≤ length reply → 1 ≤ length made → 1 ≤ k → k ≤ boxUntil block
     → BoxPasses k block frames reply made)
 
 -- there are none of words that no sound box has, to which every call is 13
 unfoldable pub BoxUntilSound : Type 0
-BoxUntilSound = (block : List ℕ) → 1 ≤ boxcall.untilCall block → Stand block
+BoxUntilSound = (block : List ℕ) → 1 ≤ boxUntil block → Stand block
 
 -- what ends them, after u: the wait, the watchdog, the report's or the transmitter's timer has one tick more to run, or the box chooses a grant
 -- at the next tick, as it does in REGISTERED with its transmitter at rest and a grant in its list
@@ -42,7 +43,7 @@ Ends u block =
     ⊎ ((getD block 9 0 ≡ u + 1) ⊎ ((u ≡ 0) × (getD block 2 0 ≡ 3) × (getD block 8 0 ≡ 0) × (1 ≤ getD block 12 0)))))
 
 unfoldable pub BoxUntilEnds : Type 0
-BoxUntilEnds = (block : List ℕ) → 29 ≤ length block → Stand block → boxcall.untilCall block < 65536 → Ends (boxcall.untilCall block) block
+BoxUntilEnds = (block : List ℕ) → 29 ≤ length block → Stand block → boxUntil block < 65536 → Ends (boxUntil block) block
 
 -- the same of the head: no frame and no notice, and the output as it was
 pub record HeadPasses (k : ℕ) (head links output reply made : List ℕ) : Type 0 where
@@ -54,12 +55,12 @@ pub record HeadPasses (k : ℕ) (head links output reply made : List ℕ) : Type
 unfoldable pub HeadUntil : Type 0
 HeadUntil =
     (head links : List ℕ)
-    → (headcall.untilCall head links ≤ 65536)
+    → (headUntil head links ≤ 65536)
     × ((output reply made : List ℕ) (k : ℕ) → 60 * linksIn (length links) ≤ length output → 5 ≤ length reply → 1 ≤ length made
-    → 1 ≤ k → k ≤ headcall.untilCall head links → HeadPasses k head links output reply made)
+    → 1 ≤ k → k ≤ headUntil head links → HeadPasses k head links output reply made)
 
 unfoldable pub HeadUntilSound : Type 0
-HeadUntilSound = (head links : List ℕ) → 1 ≤ headcall.untilCall head links → stands.Stand head links
+HeadUntilSound = (head links : List ℕ) → 1 ≤ headUntil head links → stands.Stand head links
 
 -- and exact: where head and table are sound, the tick after u hands out a frame, as word 0 of the reply says
 pub record HeadSends (u : ℕ) (head links output reply made : List ℕ) : Type 0 where
@@ -70,5 +71,5 @@ pub record HeadSends (u : ℕ) (head links output reply made : List ℕ) : Type 
 unfoldable pub HeadUntilEnds : Type 0
 HeadUntilEnds =
     (head links output reply made : List ℕ) → stands.Stand head links → 5 ≤ length head
-    → 60 * linksIn (length links) ≤ length output → 5 ≤ length reply → 1 ≤ length made → headcall.untilCall head links < 65536
-    → HeadSends (headcall.untilCall head links) head links output reply made
+    → 60 * linksIn (length links) ≤ length output → 5 ≤ length reply → 1 ≤ length made → headUntil head links < 65536
+    → HeadSends (headUntil head links) head links output reply made
