@@ -12,6 +12,8 @@
 #define LINKS 66
 #define GUARD 16
 #define COUNTERS 16384
+#define BOX_ADVANCE 5
+#define HEAD_ADVANCE 19
 
 /* Everything that is lent, with guards between. */
 struct memory {
@@ -20,6 +22,7 @@ struct memory {
     uint64_t links[CRUSTNEWT_LINK_WORDS * LINKS + GUARD];
     uint64_t reply[CRUSTNEWT_BOX_REPLY_WORDS + GUARD];
     uint64_t message[CRUSTNEWT_MESSAGE_WORDS + GUARD];
+    uint64_t made[CRUSTNEWT_MADE_WORDS + GUARD];
     uint8_t output[CRUSTNEWT_FRAME_OCTETS * LINKS + GUARD];
     uint8_t heard[CRUSTNEWT_FRAME_OCTETS + GUARD];
 };
@@ -76,6 +79,14 @@ static size_t take_length(size_t needed)
     if (choice < 224)
         return needed;
     return choice % 8 + needed < 4 ? 0 : needed + choice % 8 - 4;
+}
+
+/* How far to advance, often near an end of the range. */
+static uint64_t take_ticks(void)
+{
+    uint64_t ticks = take_word();
+
+    return ticks + take() % 3 - 1;
 }
 
 static uint64_t take_address(void)
@@ -170,6 +181,26 @@ static void judge_words(int is_nobodys, int hears, uint8_t number)
     require(!is_nobodys || number == CRUSTNEWT_UNSOUND || number == CRUSTNEWT_SHORT || is_read_first, "words that are no state's are 13");
 }
 
+/* An advance says what it made: nothing where it is refused, else 1 to as many ticks as were asked for, and the count moves by that. */
+static void judge_made(uint8_t number, uint64_t ticks, uint64_t count_before, uint64_t count_after)
+{
+    uint64_t made = now.made[0];
+    int is_in_range = ticks >= 1 && ticks <= CRUSTNEWT_MOST_TICKS;
+
+    if (number == CRUSTNEWT_SHORT)
+        return;
+    allow(now.made, CRUSTNEWT_MADE_WORDS * sizeof *now.made);
+    require(number == CRUSTNEWT_GRANT || number == CRUSTNEWT_UNSOUND || number == CRUSTNEWT_OUTPUT || is_in_range,
+            "an advance outside its range is refused");
+    require(number != CRUSTNEWT_GRANT || !is_in_range, "an advance in its range is made");
+    if (number != CRUSTNEWT_DONE) {
+        require(made == 0, "a refused advance makes no tick");
+        return;
+    }
+    require(made >= 1 && made <= ticks, "an advance makes 1 to as many ticks as were asked for");
+    require((uint32_t)(count_after - count_before) == made, "the count moves by the ticks made");
+}
+
 static void hand_over(const uint8_t *frame)
 {
     memcpy(now.heard, frame, CRUSTNEWT_FRAME_OCTETS);
@@ -205,10 +236,13 @@ static void judge_box(unsigned call, uint8_t number, int is_short)
 static void call_box(unsigned call)
 {
     size_t words = take_length(CRUSTNEWT_BOX_WORDS), octets = take_length(CRUSTNEWT_BOX_FRAMES_OCTETS);
-    size_t told = take_length(CRUSTNEWT_BOX_REPLY_WORDS);
-    uint64_t address = call == 0 ? take_address() : 0;
+    size_t told = take_length(CRUSTNEWT_BOX_REPLY_WORDS), made = CRUSTNEWT_MADE_WORDS;
+    uint64_t address = call == 0 ? take_address() : 0, ticks = call == BOX_ADVANCE ? take_ticks() : 0;
     uint32_t random = call == 3 ? (uint32_t)take_number(2) : 0;
     uint8_t number;
+
+    if (call == BOX_ADVANCE)
+        made = take_length(CRUSTNEWT_MADE_WORDS);
 
     before = now;
     if (call == 0)
@@ -219,10 +253,37 @@ static void call_box(unsigned call)
         number = crustnewt_box_deregister(now.box, words, now.output, octets, now.reply, told);
     else if (call == 3)
         number = crustnewt_box_hear(now.heard, heard_octets, random, now.box, words, now.output, octets, now.reply, told);
-    else
+    else if (call == 4)
         number = crustnewt_box_tick(now.box, words, now.output, octets, now.reply, told);
+    else
+        number = crustnewt_box_advance(ticks, now.box, words, now.output, octets, now.reply, told, now.made, made);
+    if (call == BOX_ADVANCE)
+        judge_made(number, ticks, before.box[CRUSTNEWT_BOX_COUNT], now.box[CRUSTNEWT_BOX_COUNT]);
     judge_box(call, number,
-              words < CRUSTNEWT_BOX_WORDS || octets < CRUSTNEWT_BOX_FRAMES_OCTETS || told < CRUSTNEWT_BOX_REPLY_WORDS);
+              words < CRUSTNEWT_BOX_WORDS || octets < CRUSTNEWT_BOX_FRAMES_OCTETS || told < CRUSTNEWT_BOX_REPLY_WORDS ||
+                  made < CRUSTNEWT_MADE_WORDS);
+}
+
+/* Asks how long a box is silent, and advances it by that. */
+static void call_box_until(void)
+{
+    size_t words = take_length(CRUSTNEWT_BOX_WORDS);
+    uint64_t until;
+    uint8_t number;
+
+    before = now;
+    until = crustnewt_box_ticks_until(now.box, words);
+    require_kept("asking how long a box is silent changes nothing");
+    require(until <= CRUSTNEWT_MOST_TICKS, "a box is silent for as long as it may advance at most");
+    require(until == 0 || (words >= CRUSTNEWT_BOX_WORDS && !is_nobodys_box(now.box)), "nobody is silent");
+    if (until == 0)
+        return;
+    number = crustnewt_box_advance(until, now.box, CRUSTNEWT_BOX_WORDS, now.output, CRUSTNEWT_BOX_FRAMES_OCTETS, now.reply,
+                                   CRUSTNEWT_BOX_REPLY_WORDS, now.made, CRUSTNEWT_MADE_WORDS);
+    require(number == CRUSTNEWT_DONE && now.made[0] == until, "ticks that are silent are made");
+    require_zero(now.reply, CRUSTNEWT_BOX_REPLY_NOTICE, "ticks that are silent tell nothing");
+    judge_made(number, until, before.box[CRUSTNEWT_BOX_COUNT], now.box[CRUSTNEWT_BOX_COUNT]);
+    judge_box(6, number, 0);
 }
 
 static void call_next(void)
@@ -269,7 +330,7 @@ static void judge_head(unsigned call, uint8_t number, int is_short)
 
 #define LENT now.head, words, now.links, table, now.output, octets, now.reply, told
 
-static uint8_t make_head_call(unsigned call, size_t words, size_t table, size_t octets, size_t told)
+static uint8_t make_head_call(unsigned call, size_t words, size_t table, size_t octets, size_t told, size_t made, uint64_t ticks)
 {
     uint64_t grants[6], address = take_address();
     uint8_t small = take();
@@ -296,8 +357,10 @@ static uint8_t make_head_call(unsigned call, size_t words, size_t table, size_t 
         return crustnewt_head_gate(link, grants, sync % 7, small, LENT);
     case 17:
         return crustnewt_head_hear(link, now.heard, heard_octets, LENT);
-    default:
+    case 18:
         return crustnewt_head_tick(LENT);
+    default:
+        return crustnewt_head_advance(ticks, LENT, now.made, made);
     }
 }
 
@@ -305,11 +368,38 @@ static void call_head(unsigned call)
 {
     size_t words = take_length(CRUSTNEWT_HEAD_WORDS), told = take_length(CRUSTNEWT_HEAD_REPLY_WORDS);
     size_t octets = take_length(links * CRUSTNEWT_FRAME_OCTETS), table = links * CRUSTNEWT_LINK_WORDS + take() % CRUSTNEWT_LINK_WORDS;
-    uint8_t number = make_head_call(call, words, table, octets, told);
+    size_t made = call == HEAD_ADVANCE ? take_length(CRUSTNEWT_MADE_WORDS) : CRUSTNEWT_MADE_WORDS;
+    uint64_t ticks = call == HEAD_ADVANCE ? take_ticks() : 0;
+    uint8_t number = make_head_call(call, words, table, octets, told, made, ticks);
 
-    judge_head(call, number, words < CRUSTNEWT_HEAD_WORDS || told < CRUSTNEWT_HEAD_REPLY_WORDS);
+    if (call == HEAD_ADVANCE)
+        judge_made(number, ticks, before.head[CRUSTNEWT_HEAD_COUNT], now.head[CRUSTNEWT_HEAD_COUNT]);
+    judge_head(call, number, words < CRUSTNEWT_HEAD_WORDS || told < CRUSTNEWT_HEAD_REPLY_WORDS || made < CRUSTNEWT_MADE_WORDS);
     if (number == CRUSTNEWT_DONE && call != 10)
         require(octets >= links * CRUSTNEWT_FRAME_OCTETS, "a short output isn't served");
+}
+
+/* Asks how long a head is silent, and advances it by one tick more: that hands out a frame, unless the time is the longest. */
+static void call_head_until(void)
+{
+    size_t words = take_length(CRUSTNEWT_HEAD_WORDS), table = links * CRUSTNEWT_LINK_WORDS + take() % CRUSTNEWT_LINK_WORDS;
+    size_t octets = links * CRUSTNEWT_FRAME_OCTETS, told = CRUSTNEWT_HEAD_REPLY_WORDS;
+    uint64_t until, ticks;
+    uint8_t number;
+
+    before = now;
+    until = crustnewt_head_ticks_until(now.head, words, now.links, table);
+    require_kept("asking how long a head is silent changes nothing");
+    require(until <= CRUSTNEWT_MOST_TICKS, "a head is silent for as long as it may advance at most");
+    require(until == 0 || (words >= CRUSTNEWT_HEAD_WORDS && !is_nobodys_head(now.head)), "nobody is silent");
+    if (until == 0)
+        return;
+    ticks = until < CRUSTNEWT_MOST_TICKS ? until + 1 : until;
+    number = crustnewt_head_advance(ticks, LENT, now.made, CRUSTNEWT_MADE_WORDS);
+    require(number == CRUSTNEWT_DONE && now.made[0] == ticks, "ticks that are silent are made");
+    require((now.reply[CRUSTNEWT_HEAD_REPLY_FRAMES] > 0) == (ticks > until), "the tick after them hands out a frame");
+    judge_made(number, ticks, before.head[CRUSTNEWT_HEAD_COUNT], now.head[CRUSTNEWT_HEAD_COUNT]);
+    judge_head(HEAD_ADVANCE + 1, number, 0);
 }
 
 static void call_read(void)
@@ -324,7 +414,7 @@ static void call_read(void)
         return;
     allow(now.message, CRUSTNEWT_MESSAGE_WORDS * sizeof *now.message);
     require_kept("reading changes the message alone");
-    count(20, number, now.message[CRUSTNEWT_MESSAGE_KIND], 0, now.message[CRUSTNEWT_MESSAGE_BODY]);
+    count(30, number, now.message[CRUSTNEWT_MESSAGE_KIND], 0, now.message[CRUSTNEWT_MESSAGE_BODY]);
     if (number != CRUSTNEWT_DONE) {
         require(now.message[CRUSTNEWT_MESSAGE_KIND] == CRUSTNEWT_MESSAGE_REPORT, "a refused frame is a REPORT");
         now.message[CRUSTNEWT_MESSAGE_KIND] = 0;
@@ -345,7 +435,7 @@ static void call_write(void)
     allow(now.heard, CRUSTNEWT_FRAME_OCTETS);
     require_kept("writing changes the frame alone");
     heard_octets = CRUSTNEWT_FRAME_OCTETS;
-    count(21, number, now.message[CRUSTNEWT_MESSAGE_KIND], 0, now.message[CRUSTNEWT_MESSAGE_BODY]);
+    count(31, number, now.message[CRUSTNEWT_MESSAGE_KIND], 0, now.message[CRUSTNEWT_MESSAGE_BODY]);
     for (unsigned i = 0; i < CRUSTNEWT_FRAME_OCTETS && number != CRUSTNEWT_DONE; i++)
         require(now.heard[i] == 0, "a refused message is written as zeros");
 }
@@ -381,7 +471,7 @@ int LLVMFuzzerTestOneInput(const uint8_t *octets, size_t length)
     heard_octets = 0;
     links = tables[take() % 6];
     while (input_left > 0) {
-        unsigned call = take() % 28;
+        unsigned call = take() % 32;
 
         if (call < 5)
             call_box(call);
@@ -395,8 +485,14 @@ int LLVMFuzzerTestOneInput(const uint8_t *octets, size_t length)
             call_read();
         else if (call == 21)
             call_write();
-        else
+        else if (call < 28)
             spoil(call - 22);
+        else if (call < 30)
+            call_box(BOX_ADVANCE);
+        else if (call == 30)
+            call_box_until();
+        else
+            call_head_until();
     }
     return 0;
 }

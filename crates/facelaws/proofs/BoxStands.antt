@@ -103,7 +103,7 @@ module _ (block : List ℕ) (h : 29 ≤ length block) where
   none-has e = rw e
 
   -- the theorem
-  only : (b : FloorBox) → Words block b → boxAt block ≡ b
+  pub only : (b : FloorBox) → Words block b → boxAt block ≡ b
   unfolding boxAt
   only b s = ap boxIn (whole block h ∙ s .words) ∙ unpacked b (s .fits)
 
@@ -112,12 +112,12 @@ unfolding BoxRepacked
 box-repacked block b h s = let e = only block h b s in (e, ap boxWords e ∙ sym (s .words))
 
 -- THE CALLS
-lent : (block frames reply : ℕ) → 29 ≤ block → 120 ≤ frames → 19 ≤ reply → isLent block frames reply ≡ true
+pub lent : (block frames reply : ℕ) → 29 ≤ block → 120 ≤ frames → 19 ≤ reply → isLent block frames reply ≡ true
 unfolding isLent
 lent block frames reply a b c = rw (le-leb 29 block a, le-leb 120 frames b, le-leb 19 reply c)
 
 -- the number is the core's
-number-is : (f : FloorBox → Answer) (block frames reply : List ℕ) → isLent (length block) (length frames) (length reply) ≡ true
+pub number-is : (f : FloorBox → Answer) (block frames reply : List ℕ) → isLent (length block) (length frames) (length reply) ≡ true
     → boxCall f block frames reply .number ≡ numberOf (f (boxAt block) .reply)
 unfolding boxCall settled handed toldOf
 number-is f block frames reply e =
@@ -142,7 +142,7 @@ called f deregister b = (core.deregister, refl)
 called f (hear octets random r) b = (core.hear (readOf octets .message) random, rw (eq-eqb (numberOf (readOf octets .reply)) 0 r))
 called f tick b = (core.tick, refl)
 
-judged : (f : FloorBox → Answer) → Judging f → (b : FloorBox) → Is13 b (f b)
+pub judged : (f : FloorBox → Answer) → Judging f → (b : FloorBox) → Is13 b (f b)
 judged f j b = let k = called f j b in rw (k .1) (by-outcome (k .0) b (answer (k .0) b) (outcome (k .0) b))
 
 unsound-nobody : soundOf nobody ≡ false
@@ -179,12 +179,12 @@ box-judged f j block frames reply a b c =
     (sound-taken f j block frames reply a e, taken-stands f j block frames reply a e)
 
 -- a refusal
-refused-left : (x : Answer) (b : FloorBox) (block frames reply : List ℕ) → numberOf (x .reply) ≢ 0 → Unchanged b x
+pub refused-left : (x : Answer) (b : FloorBox) (block frames reply : List ℕ) → numberOf (x .reply) ≢ 0 → Unchanged b x
     → settled x block frames reply ≡ bare (numberOf (x .reply)) block frames reply
 unfolding settled toldOf toldWords listed
 refused-left x b block frames reply n u = rw (ne-eqb (numberOf (x .reply)) 0 n, u .drift, u .frames, u .notices)
 
-lent-left : (f : FloorBox → Answer) (block frames reply : List ℕ) → isLent (length block) (length frames) (length reply) ≡ true
+pub lent-left : (f : FloorBox → Answer) (block frames reply : List ℕ) → isLent (length block) (length frames) (length reply) ≡ true
     → boxCall f block frames reply ≡ settled (f (boxAt block)) block frames reply
 unfolding boxCall
 lent-left f block frames reply e = rw e

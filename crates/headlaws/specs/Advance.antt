@@ -220,7 +220,7 @@ module _ (s : Served) (r : Ready s) where
       }
 
   -- where no quiet tick is left, the next is not silent
-  tick-told : quietAll (s .table) ≡ 0 → isSilent (again s) ≡ false
+  pub tick-told : quietAll (s .table) ≡ 0 → isSilent (again s) ≡ false
   unfolding isSilent doneOf sentOf hasRoom
   tick-told q =
       let w : Sender = record { source = s .answer .next .address; timestamp = nextOf (s .answer .next .count) } in
@@ -277,7 +277,7 @@ pub record Reached (k : ℕ) (s t : Served) : Type 0 where
   pub ready : Ready t
   pub left : quietAll (s .table) < furthestAdvance → quietAll (t .table) + k ≡ quietAll (s .table)
 
-reach : (k : ℕ) (s : Served) → Ready s → k ≤ quietAll (s .table) → Reached k s (leapOf k s)
+pub reach : (k : ℕ) (s : Served) → Ready s → k ≤ quietAll (s .table) → Reached k s (leapOf k s)
 unfolding leapOf
 reach zero s r h = record { ready = r; left = λ _. omega arith }
 reach (suc k) s r h =

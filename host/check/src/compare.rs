@@ -1,7 +1,8 @@
 //! One script on two cores.
 
+use crate::singly::{self, SOME};
 use crustnewt_core::Core;
-use crustnewt_tool::replay::{parse, Script, Stage};
+use crustnewt_tool::replay::{parse, Call, Script, Stage};
 use plain::{FloorBox, Head, Link};
 use std::fmt;
 use std::panic::{catch_unwind, AssertUnwindSafe};
@@ -39,8 +40,18 @@ impl fmt::Display for Difference {
 /// Plays a script on both; the first difference, if there is one. A panic is
 /// one: a core ends in it rather than guess what a word means.
 pub fn compare(first: &dyn Core, second: &dyn Core, script: &[String]) -> Option<Difference> {
+    compare_up_to(first, second, script, SOME)
+}
+
+/// The same with so many single ticks of each advance.
+pub(crate) fn compare_up_to(
+    first: &dyn Core,
+    second: &dyn Core,
+    script: &[String],
+    most: u64,
+) -> Option<Difference> {
     let mut line = 0;
-    let play = AssertUnwindSafe(|| compare_lines(first, second, script, &mut line));
+    let play = AssertUnwindSafe(|| compare_lines([first, second], script, most, &mut line));
     catch_unwind(play).unwrap_or_else(|_| {
         let first = "one of the cores panicked".to_owned();
         Some(Difference {
@@ -53,41 +64,46 @@ pub fn compare(first: &dyn Core, second: &dyn Core, script: &[String]) -> Option
 
 /// Compares line by line, and tells which it is at.
 fn compare_lines(
-    first: &dyn Core,
-    second: &dyn Core,
+    cores: [&dyn Core; 2],
     script: &[String],
+    most: u64,
     at: &mut usize,
 ) -> Option<Difference> {
-    let mut first = Stage::new(first);
-    let mut second = Stage::new(second);
+    let mut stages = cores.map(Stage::new);
     for (line, text) in script.iter().enumerate() {
         *at = line;
-        let (said_first, said_second) = (play(&mut first, text), play(&mut second, text));
-        let differ = |first, second| Difference {
-            line,
-            first,
-            second,
+        let Script::Call(call) = parse(text.as_bytes()) else {
+            continue;
         };
-        if said_first != said_second {
-            return Some(differ(said_first, said_second));
-        }
-        let (held_first, held_second) = (Held::by(&first), Held::by(&second));
-        if held_first != held_second {
-            let (first, second) = (format!("{held_first:?}"), format!("{held_second:?}"));
-            return Some(differ(first, second));
+        let differ = singly::hold(cores, &stages[0], &call, most)
+            .or_else(|| compare_call(&mut stages, &call));
+        if let Some([first, second]) = differ {
+            return Some(Difference {
+                line,
+                first,
+                second,
+            });
         }
     }
     None
 }
 
-/// Plays one line and hands back what it printed.
-fn play(stage: &mut Stage<'_>, line: &str) -> String {
-    let mut said = Vec::new();
-    if let Script::Call(call) = parse(line.as_bytes()) {
-        // Writing into a vector doesn't fail, and a line that names a missing
-        // link is the same line for both.
-        let _ = stage.play(&call, &mut said);
+/// Makes one call on both; what they said or hold, if it isn't the same.
+fn compare_call(stages: &mut [Stage<'_>; 2], call: &Call) -> Option<[String; 2]> {
+    let said = stages.each_mut().map(|stage| play(stage, call));
+    if said[0] != said[1] {
+        return Some(said);
     }
+    let held = stages.each_ref().map(Held::by);
+    (held[0] != held[1]).then(|| held.map(|held| format!("{held:?}")))
+}
+
+/// Makes one call and hands back what it printed.
+fn play(stage: &mut Stage<'_>, call: &Call) -> String {
+    let mut said = Vec::new();
+    // Writing into a vector doesn't fail, and a line that names a missing link
+    // is the same line for both.
+    let _ = stage.play(call, &mut said);
     String::from_utf8_lossy(&said).into_owned()
 }
 
@@ -98,10 +114,12 @@ struct Held<'a> {
     head: Head,
     links: Vec<Link>,
     output: &'a [u8],
+    /// How long box and head say that they are silent.
+    silent: [u64; 2],
 }
 
-impl Held<'_> {
-    fn by<'a>(stage: &'a Stage<'_>) -> Held<'a> {
+impl<'a> Held<'a> {
+    fn by(stage: &'a Stage<'_>) -> Held<'a> {
         Held {
             floor_box: stage.floor_box.state(),
             head: stage.head.state(),
@@ -109,6 +127,7 @@ impl Held<'_> {
                 .map(|place| stage.head.link(place))
                 .collect(),
             output: stage.head.output(),
+            silent: [stage.floor_box.ticks_until(), stage.head.ticks_until()],
         }
     }
 }

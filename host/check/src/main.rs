@@ -13,8 +13,9 @@ Usage: check [OPTION]...
 Plays cases on the proved library and on the independent program, and compares
 replies, states, frames, notices and whole outputs: first a fixed set (every
 state with every message, timers at their ends, outputs of every length), then
-cases made from consecutive seeds. With each of these both are also asked
-directly, with values that a script can't write.
+cases made from consecutive seeds. An advance is held against single ticks of
+both as well. With each of these cases both are also asked directly, with values
+that a script can't write.
 
   --cases N       how many made from seeds (default 60000, about a minute)
   --soak MINUTES  as many as take so long

@@ -5,8 +5,8 @@
 
 use crate::generate::messages::{any_frame, any_message, granted};
 use crate::generate::states::{any_box, any_head, any_links};
-use crate::generate::values::{address, count, sync};
-use crustnewt_core::{Core, HeadCore};
+use crate::generate::values::{address, count, sync, ticks_ahead};
+use crustnewt_core::{Advanced, Core, HeadCore, HeadReply};
 use crustnewt_tool::dice::Dice;
 use plain::{
     Address, Body, FloorBox, Gate, GateRequest, Grant, GrantList, Light, Link, Message, Newcomer,
@@ -42,14 +42,21 @@ fn box_call(core: &dyn Core, dice: &mut Dice) -> String {
     let mut floor_box = core.floor_box();
     floor_box.set_state(&state);
     let frame = any_frame(dice);
-    let reply = match dice.below(5) {
-        0 => floor_box.fresh(wide_address(dice)),
-        1 => floor_box.hear(&frame, 0),
-        2 => floor_box.register(),
-        3 => floor_box.deregister(),
-        _ => floor_box.tick(),
+    let silent = floor_box.ticks_until();
+    let reply = match dice.below(6) {
+        0 => single(floor_box.fresh(wide_address(dice))),
+        1 => single(floor_box.hear(&frame, 0)),
+        2 => single(floor_box.register()),
+        3 => single(floor_box.deregister()),
+        4 => floor_box.advance(ticks_ahead(dice, &[state.light.left()])),
+        _ => single(floor_box.tick()),
     };
-    told(&(state, frame), (reply, floor_box.state()))
+    told(&(state, frame), (reply, silent, floor_box.state()))
+}
+
+/// A call that tells no ticks.
+fn single<R>(reply: R) -> Advanced<R> {
+    Advanced { reply, made: 0 }
 }
 
 fn head_call(core: &dyn Core, dice: &mut Dice) -> String {
@@ -65,12 +72,16 @@ fn head_call(core: &dyn Core, dice: &mut Dice) -> String {
         head.set_link(place, link);
     }
     let asked = (dice.clone(), state, table);
-    let reply = head_request(&mut *head, dice);
+    let silent = head.ticks_until();
+    let reply = match dice.below(9) {
+        0 => head.advance(ticks_ahead(dice, &[])),
+        _ => single(head_request(&mut *head, dice)),
+    };
     let links: Vec<Link> = (0..head.links()).map(|place| head.link(place)).collect();
-    told(&asked, (reply, head.state(), links, head.output()))
+    told(&asked, (reply, silent, head.state(), links, head.output()))
 }
 
-fn head_request(head: &mut dyn HeadCore, dice: &mut Dice) -> impl Debug {
+fn head_request(head: &mut dyn HeadCore, dice: &mut Dice) -> HeadReply {
     let newcomer = Newcomer {
         address: wide_address(dice),
         pending: 1,

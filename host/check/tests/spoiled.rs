@@ -2,11 +2,15 @@
 //! nothing where it isn't.
 
 use check::{check, check_fixed, compare, compare_wide};
-use crustnewt_core::{BoxCore, BoxReply, Core, HeadCore, HeadReply, PlainCore, ProvedCore};
+use crustnewt_core::{
+    Advanced, BoxCore, BoxReply, Core, HeadCore, HeadReply, PlainCore, ProvedCore,
+};
+use crustnewt_tool::night::{self, Options, Progress, Scenario};
 use crustnewt_tool::replay::replay;
+use plain::numbers::TICKS_PER_SECOND;
 use plain::{
     Address, Body, FloorBox, Frame, GateRequest, Head, HeadNotice, HeadNoticeKind, Link, Message,
-    Newcomer, Next, OpenWindow,
+    Newcomer, Next, OpenWindow, Window,
 };
 
 /// What is wrong with a spoiled core.
@@ -39,7 +43,59 @@ enum Flaw {
     ReadsPad,
     /// A request ends in a panic.
     Panics,
+    /// An advance of the head makes one tick more where it stops.
+    OneTickMore,
+    /// An advance of the box stops before the tick that it is to stop after.
+    StopsBeforeRing,
+    /// An advance of the head stops where its window opens.
+    StopsAtWindow,
+    /// An advance stamps the head's frames with the count that it began at.
+    FirstCount,
+    /// An advance leaves the watchdog of the head's first link as it was.
+    TimerStands,
+    /// The head judges how far to advance ahead of its output.
+    NineBeforeTwelve,
+    /// The box takes how far to advance modulo 2^32.
+    Modulo,
+    /// The head refuses to advance by 65,536.
+    RefusesMost,
+    /// The box makes 65,537 ticks if it is asked to.
+    TakesMore,
+    /// An advance that is to be refused with 14 is done, without a tick.
+    FourteenLate,
+    /// An advance is refused with 14 where only a later tick would be.
+    FourteenEarly,
+    /// A refused advance of the box says that it made a tick.
+    MadeOfRefusal,
+    /// An advance that hands out nothing writes into the output.
+    SilentWrites,
+    /// The head says that it is silent for a tick more than it is.
+    HeadUntilMore,
+    /// The head says that it is silent for a tick less than it is.
+    HeadUntilLess,
+    /// The box says that it is silent for a tick more than it is.
+    BoxUntilMore,
 }
+
+/// The flaws of an advance, and of what is said of ticks to come.
+const OF_ADVANCES: [Flaw; 16] = [
+    Flaw::OneTickMore,
+    Flaw::StopsBeforeRing,
+    Flaw::StopsAtWindow,
+    Flaw::FirstCount,
+    Flaw::TimerStands,
+    Flaw::NineBeforeTwelve,
+    Flaw::Modulo,
+    Flaw::RefusesMost,
+    Flaw::TakesMore,
+    Flaw::FourteenLate,
+    Flaw::FourteenEarly,
+    Flaw::MadeOfRefusal,
+    Flaw::SilentWrites,
+    Flaw::HeadUntilMore,
+    Flaw::HeadUntilLess,
+    Flaw::BoxUntilMore,
+];
 
 /// The proved core with a flaw.
 struct Spoiled(Flaw);
@@ -71,6 +127,47 @@ impl Core for Spoiled {
 
     fn floor_box(&self) -> Box<dyn BoxCore> {
         Box::new(SpoiledBox(self.0, ProvedCore.floor_box()))
+    }
+}
+
+impl SpoiledHead {
+    /// Writes into the output, from this place on.
+    fn scribble(&mut self, at: usize, octets: &[u8]) {
+        let mut output = self.1.output().to_vec();
+        output[at..at + octets.len()].copy_from_slice(octets);
+        self.1.lend_output(output);
+    }
+
+    /// How far the head advances, spoiled before it does.
+    fn spoil_ticks(&self, ticks: u64) -> u64 {
+        match (self.0, self.1.state().window) {
+            (Flaw::RefusesMost, _) if ticks == 65_536 => 0,
+            (Flaw::StopsAtWindow, Window::Before { left, .. }) if ticks <= 65_536 => {
+                ticks.min(left.into())
+            }
+            _ => ticks,
+        }
+    }
+
+    /// What an advance from this state has done, spoiled after it.
+    fn spoil_advanced(&mut self, before: &Head, advanced: &mut Advanced<HeadReply>) {
+        let Advanced { reply, made } = *advanced;
+        match self.0 {
+            Flaw::OneTickMore if reply.frames > 0 => {
+                self.1.tick();
+                advanced.made += 1;
+            }
+            Flaw::FirstCount if reply.frames > 0 => {
+                self.scribble(16, &before.count.0.to_be_bytes());
+            }
+            Flaw::TimerStands if made > 1 && self.1.link(0).watchdog > 0 => {
+                let mut link = self.1.link(0);
+                link.watchdog = (u64::from(link.watchdog) + made).min(62_500_000) as u32;
+                self.1.set_link(0, &link);
+            }
+            Flaw::SilentWrites if reply.is_quiet() => self.scribble(0, &[0]),
+            _ => {}
+        }
     }
 }
 
@@ -145,6 +242,22 @@ impl HeadCore for SpoiledHead {
         }
         reply
     }
+    fn advance(&mut self, ticks: u64) -> Advanced<HeadReply> {
+        let before = self.1.state();
+        let mut advanced = self.1.advance(self.spoil_ticks(ticks));
+        if self.0 == Flaw::NineBeforeTwelve && advanced.reply.number == 12 && ticks == 0 {
+            advanced.reply.number = 9;
+        }
+        self.spoil_advanced(&before, &mut advanced);
+        advanced
+    }
+    fn ticks_until(&self) -> u64 {
+        match (self.0, self.1.ticks_until()) {
+            (Flaw::HeadUntilMore, until @ 1..65_536) => until + 1,
+            (Flaw::HeadUntilLess, until @ 1..65_536) => until - 1,
+            (_, until) => until,
+        }
+    }
     fn state(&self) -> Head {
         self.1.state()
     }
@@ -216,6 +329,36 @@ impl BoxCore for SpoiledBox {
         }
         reply
     }
+    fn advance(&mut self, ticks: u64) -> Advanced<BoxReply> {
+        let before = self.1.state();
+        let mut advanced = self.1.advance(match self.0 {
+            Flaw::Modulo => u64::from(ticks as u32),
+            Flaw::TakesMore if ticks == 65_537 => 65_536,
+            _ => ticks,
+        });
+        let Advanced { reply, made } = advanced;
+        match self.0 {
+            Flaw::StopsBeforeRing if !reply.is_quiet() && made > 1 => {
+                self.1.set_state(&before);
+                advanced = self.1.advance(made - 1);
+            }
+            Flaw::FourteenLate if reply.number == 14 => advanced.reply = BoxReply::default(),
+            Flaw::FourteenEarly if reply.is_quiet() && made < ticks => {
+                self.1.set_state(&before);
+                let reply = BoxReply::refused(14);
+                advanced = Advanced { reply, made: 0 };
+            }
+            Flaw::MadeOfRefusal if reply.number != 0 => advanced.made = 1,
+            _ => {}
+        }
+        advanced
+    }
+    fn ticks_until(&self) -> u64 {
+        match (self.0, self.1.ticks_until()) {
+            (Flaw::BoxUntilMore, until @ 1..65_536) => until + 1,
+            (_, until) => until,
+        }
+    }
     fn next(&self, control: usize, data: usize) -> Next {
         let shorter = control.saturating_sub(2);
         match self.0 {
@@ -231,11 +374,11 @@ impl BoxCore for SpoiledBox {
     }
 }
 
-/// Lines of the shortest script that shows a flaw.
-fn found(flaw: Flaw) -> Option<usize> {
+/// Lines of the shortest script that shows a flaw beside another core.
+fn found(core: &dyn Core, flaw: Flaw) -> Option<usize> {
     let spoiled = Spoiled(flaw);
-    let failure = (1..8000).find_map(|seed| check(&PlainCore, &spoiled, seed).err())?;
-    assert!(compare(&PlainCore, &spoiled, &failure.script).is_some());
+    let failure = (1..8000).find_map(|seed| check(core, &spoiled, seed).err())?;
+    assert!(compare(core, &spoiled, &failure.script).is_some());
     let mut played = Vec::new();
     replay(&PlainCore, failure.to_string().as_bytes(), &mut played).unwrap();
     assert!(!played.contains(&b'?'), "{failure}");
@@ -245,7 +388,7 @@ fn found(flaw: Flaw) -> Option<usize> {
         rest
     });
     for rest in shorter {
-        assert_eq!(compare(&PlainCore, &spoiled, &rest), None);
+        assert_eq!(compare(core, &spoiled, &rest), None);
     }
     Some(failure.script.len())
 }
@@ -282,9 +425,49 @@ fn each_flaw_is_found_and_shrunk() {
         Flaw::RefusalTells,
         Flaw::ReadsPad,
         Flaw::Panics,
-    ] {
-        let lines = found(flaw);
+    ]
+    .into_iter()
+    .chain(OF_ADVANCES)
+    {
+        let lines = found(&PlainCore, flaw);
         assert!(lines.is_some_and(|lines| lines <= 8), "{flaw:?} {lines:?}");
+    }
+}
+
+/// Its own single ticks give away an advance that is wrong on both sides.
+#[test]
+fn advances_are_held_against_the_ticks_of_the_same_core() {
+    for flaw in OF_ADVANCES {
+        let lines = found(&Spoiled(flaw), flaw);
+        assert!(lines.is_some_and(|lines| lines <= 8), "{flaw:?} {lines:?}");
+    }
+}
+
+/// A night whose head or boxes are silent for less time than they say, or stop
+/// early, ends badly.
+#[test]
+fn a_night_holds_ticks_made_against_what_was_said() {
+    for (flaw, goes_well) in [
+        (Flaw::None, true),
+        (Flaw::HeadUntilMore, false),
+        (Flaw::BoxUntilMore, false),
+        (Flaw::OneTickMore, false),
+        (Flaw::StopsBeforeRing, false),
+        (Flaw::StopsAtWindow, false),
+    ] {
+        let options = Options {
+            scenario: Scenario::Dark,
+            // With more of them a frame may arrive at the tick in question.
+            boxes: 1,
+            delay: 62,
+            loss: 0,
+            seed: 1,
+            ticks: 3 * TICKS_PER_SECOND,
+            every_tick: false,
+        };
+        let mut progress = Progress::new(false, options.ticks);
+        let ended = night::run(&Spoiled(flaw), &options, Vec::new(), &mut progress);
+        assert_eq!(ended.unwrap(), goes_well, "{flaw:?}");
     }
 }
 

@@ -53,6 +53,12 @@ pub trait HeadCore {
     fn hear(&mut self, link: u64, frame: &[u8]) -> HeadReply;
     /// One quantum passes.
     fn tick(&mut self) -> HeadReply;
+    /// So many quanta pass, 1 to 65,536, up to the first tick that hands
+    /// something out.
+    fn advance(&mut self, ticks: u64) -> Advanced<HeadReply>;
+    /// How many ticks from now are surely done and hand out nothing, up to
+    /// 65,536; if fewer, the next one hands out a frame.
+    fn ticks_until(&self) -> u64;
     /// The head's own state.
     fn state(&self) -> Head;
     /// Sets the head's own state.
@@ -79,6 +85,12 @@ pub trait BoxCore {
     fn hear(&mut self, frame: &[u8], random: u32) -> BoxReply;
     /// One quantum passes.
     fn tick(&mut self) -> BoxReply;
+    /// So many quanta pass, 1 to 65,536, up to the first tick that hands
+    /// something out, and no further than a tick that would be refused.
+    fn advance(&mut self, ticks: u64) -> Advanced<BoxReply>;
+    /// How many ticks from now are surely done and hand out nothing, up to
+    /// 65,536; the next one may be silent as well.
+    fn ticks_until(&self) -> u64;
     /// Which of two frames of these many octets goes next.
     fn next(&self, control: usize, data: usize) -> Next;
     /// The box's state.
@@ -110,6 +122,16 @@ pub struct BoxReply {
     pub frames: Few<Frame, 2>,
     /// Notices in order.
     pub notices: Few<BoxNotice, 4>,
+}
+
+/// What an advance answers: the reply of the last tick made, and how many were
+/// made, 0 on a refusal.
+#[derive(Clone, Copy, Debug, Default, PartialEq, Eq)]
+pub struct Advanced<R> {
+    /// The last tick's reply.
+    pub reply: R,
+    /// Ticks made.
+    pub made: u64,
 }
 
 impl HeadReply {

@@ -1,6 +1,6 @@
 //! The plain implementation as a core.
 
-use crate::{BoxCore, BoxReply, Core, HeadCore, HeadReply};
+use crate::{Advanced, BoxCore, BoxReply, Core, HeadCore, HeadReply};
 use plain::{
     frame, Address, BoxAnswer, FloorBox, Frame, GateRequest, Head, HeadAnswer, Link, Message,
     Newcomer, Next, OpenWindow, Refusal,
@@ -102,6 +102,16 @@ impl HeadCore for PlainHead {
         self.head.tick(&mut self.links, &mut self.output).into()
     }
 
+    fn advance(&mut self, ticks: u64) -> Advanced<HeadReply> {
+        self.head
+            .advance(&mut self.links, &mut self.output, ticks)
+            .into()
+    }
+
+    fn ticks_until(&self) -> u64 {
+        self.head.ticks_until(&self.links).into()
+    }
+
     fn state(&self) -> Head {
         self.head
     }
@@ -152,6 +162,14 @@ impl BoxCore for FloorBox {
         FloorBox::tick(self).into()
     }
 
+    fn advance(&mut self, ticks: u64) -> Advanced<BoxReply> {
+        FloorBox::advance(self, ticks).into()
+    }
+
+    fn ticks_until(&self) -> u64 {
+        FloorBox::ticks_until(self).into()
+    }
+
     fn next(&self, control: usize, data: usize) -> Next {
         FloorBox::next(self, control, data)
     }
@@ -191,6 +209,18 @@ impl From<Result<BoxAnswer, Refusal>> for BoxReply {
                 notices: answer.notices,
             },
             Err(refusal) => BoxReply::refused(refusal.number()),
+        }
+    }
+}
+
+impl<A, R> From<Result<plain::Advanced<A>, Refusal>> for Advanced<R>
+where
+    R: From<Result<A, Refusal>>,
+{
+    fn from(advanced: Result<plain::Advanced<A>, Refusal>) -> Advanced<R> {
+        Advanced {
+            made: advanced.as_ref().map_or(0, |advanced| advanced.made.into()),
+            reply: advanced.map(|advanced| advanced.answer).into(),
         }
     }
 }

@@ -6,7 +6,7 @@
 
 mod turn;
 
-use crate::{BoxCore, BoxReply, Core, HeadCore, HeadReply};
+use crate::{Advanced, BoxCore, BoxReply, Core, HeadCore, HeadReply};
 use crustnewt::sys::{self, BoxMemory, HeadMemory};
 use crustnewt::{BoxParts, HeadParts, Link, Message, Refusal};
 use plain::{Address, Few, Frame, GateRequest, Newcomer, OpenWindow};
@@ -139,6 +139,17 @@ impl HeadCore for ProvedHead {
         self.call(sys::head_tick)
     }
 
+    fn advance(&mut self, ticks: u64) -> Advanced<HeadReply> {
+        let mut made = [FILLER_WORD; sys::MADE_WORDS];
+        let reply = self.call(|memory| sys::head_advance(ticks, memory, &mut made));
+        let [made] = made;
+        Advanced { reply, made }
+    }
+
+    fn ticks_until(&self) -> u64 {
+        sys::head_ticks_until(&self.head, &self.links)
+    }
+
     fn state(&self) -> plain::Head {
         somebody(HeadParts::of_words(&self.head)).turn()
     }
@@ -204,6 +215,17 @@ impl BoxCore for ProvedBox {
 
     fn tick(&mut self) -> BoxReply {
         self.call(sys::box_tick)
+    }
+
+    fn advance(&mut self, ticks: u64) -> Advanced<BoxReply> {
+        let mut made = [FILLER_WORD; sys::MADE_WORDS];
+        let reply = self.call(|memory| sys::box_advance(ticks, memory, &mut made));
+        let [made] = made;
+        Advanced { reply, made }
+    }
+
+    fn ticks_until(&self) -> u64 {
+        sys::box_ticks_until(&self.block)
     }
 
     fn next(&self, control: usize, data: usize) -> plain::Next {

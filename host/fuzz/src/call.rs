@@ -15,6 +15,8 @@ pub enum BoxCall {
     Hear(Vec<u8>, u32),
     /// `crustnewt_box_tick`.
     Tick,
+    /// `crustnewt_box_advance`.
+    Advance(u64),
 }
 
 /// A call of a head.
@@ -38,14 +40,40 @@ pub enum HeadCall {
     Hear(usize, Vec<u8>),
     /// `crustnewt_head_tick`.
     Tick,
+    /// `crustnewt_head_advance`.
+    Advance(u64),
+}
+
+impl BoxCall {
+    /// How far it is to advance, where it does.
+    pub fn ticks(&self) -> Option<u64> {
+        match *self {
+            BoxCall::Advance(ticks) => Some(ticks),
+            _ => None,
+        }
+    }
+}
+
+impl HeadCall {
+    /// How far it is to advance, where it does.
+    pub fn ticks(&self) -> Option<u64> {
+        match *self {
+            HeadCall::Advance(ticks) => Some(ticks),
+            _ => None,
+        }
+    }
 }
 
 /// The functions to call.
 pub trait Face {
-    /// Makes a call of a box.
-    fn on_box(&self, call: &BoxCall, memory: BoxMemory<'_>) -> u8;
-    /// Makes a call of a head.
-    fn on_head(&self, call: &HeadCall, memory: HeadMemory<'_>) -> u8;
+    /// Makes a call of a box; only an advance tells how many ticks it made.
+    fn on_box(&self, call: &BoxCall, memory: BoxMemory<'_>, made: &mut [u64]) -> u8;
+    /// Makes a call of a head; only an advance tells how many ticks it made.
+    fn on_head(&self, call: &HeadCall, memory: HeadMemory<'_>, made: &mut [u64]) -> u8;
+    /// `crustnewt_box_ticks_until`.
+    fn box_ticks_until(&self, block: &[u64]) -> u64;
+    /// `crustnewt_head_ticks_until`.
+    fn head_ticks_until(&self, head: &[u64], links: &[u64]) -> u64;
     /// `crustnewt_box_next_to_send`.
     fn next_to_send(&self, block: &[u64], control: &[u8], data: &[u8]) -> u8;
     /// `crustnewt_read`.
@@ -58,17 +86,18 @@ pub trait Face {
 pub struct Library;
 
 impl Face for Library {
-    fn on_box(&self, call: &BoxCall, memory: BoxMemory<'_>) -> u8 {
+    fn on_box(&self, call: &BoxCall, memory: BoxMemory<'_>, made: &mut [u64]) -> u8 {
         match call {
             BoxCall::Fresh(address) => sys::box_fresh(*address, memory),
             BoxCall::Register => sys::box_register(memory),
             BoxCall::Deregister => sys::box_deregister(memory),
             BoxCall::Hear(octets, random) => sys::box_hear(octets, *random, memory),
             BoxCall::Tick => sys::box_tick(memory),
+            BoxCall::Advance(ticks) => sys::box_advance(*ticks, memory, made),
         }
     }
 
-    fn on_head(&self, call: &HeadCall, memory: HeadMemory<'_>) -> u8 {
+    fn on_head(&self, call: &HeadCall, memory: HeadMemory<'_>, made: &mut [u64]) -> u8 {
         match *call {
             HeadCall::Fresh(address) => {
                 sys::head_fresh(address, memory.head, memory.links, memory.reply)
@@ -87,7 +116,16 @@ impl Face for Library {
             HeadCall::Gate(link, ref grants, force) => sys::head_gate(link, grants, force, memory),
             HeadCall::Hear(link, ref octets) => sys::head_hear(link, octets, memory),
             HeadCall::Tick => sys::head_tick(memory),
+            HeadCall::Advance(ticks) => sys::head_advance(ticks, memory, made),
         }
+    }
+
+    fn box_ticks_until(&self, block: &[u64]) -> u64 {
+        sys::box_ticks_until(block)
+    }
+
+    fn head_ticks_until(&self, head: &[u64], links: &[u64]) -> u64 {
+        sys::head_ticks_until(head, links)
     }
 
     fn next_to_send(&self, block: &[u64], control: &[u8], data: &[u8]) -> u8 {

@@ -46,6 +46,21 @@ pub fn within(dice: &mut Dice, usual: usize, longest: usize) -> usize {
     }
 }
 
+/// How far to advance where these words have timers among them: about as far as
+/// one of them runs, near the ends of the range, or just on.
+pub fn ticks(dice: &mut Dice, timers: &[u64]) -> u64 {
+    let near = match timers {
+        [] => 0,
+        timers => dice.pick(timers),
+    };
+    match dice.below(5) {
+        0 => dice.pick(&[0, 1, 2, 65_535, 65_536, 65_537, (1 << 32) + 1, u64::MAX]),
+        1 => 1 + dice.below(65_536),
+        2 => 65_536,
+        _ => near.wrapping_add(dice.below(3)).wrapping_sub(1),
+    }
+}
+
 /// An address: a party's, another box's, or none.
 pub fn address(dice: &mut Dice) -> u64 {
     let box_near = BOX + dice.below(70);

@@ -1,5 +1,6 @@
 //! What the header promises of every call, whatever it is handed.
 
+mod advances;
 mod frames;
 mod messages;
 mod on_box;
@@ -7,8 +8,8 @@ mod on_head;
 mod states;
 
 pub use frames::{judge_read, judge_write};
-pub use on_box::{judge_box, judge_next, BoxLent};
-pub use on_head::{judge_head, HeadLent};
+pub use on_box::{judge_box, judge_box_until, judge_next, BoxLent};
+pub use on_head::{judge_head, judge_head_until, HeadLent};
 
 use crustnewt::Refusal;
 
@@ -25,6 +26,8 @@ pub struct Left {
     pub reply: Vec<u64>,
     /// The octets of its frames.
     pub frames: Vec<u8>,
+    /// The ticks that it says it made, or that it says are silent.
+    pub made: u64,
 }
 
 /// Two fillers for memory that a call has no business to look at: each call
@@ -33,6 +36,9 @@ const FILLERS: [u8; 2] = [0xEE, 0x11];
 
 const DONE: u8 = 0;
 const RANGE: u8 = Refusal::Range as u8;
+const GRANT: u8 = Refusal::Grant as u8;
+const OUTPUT: u8 = Refusal::Output as u8;
+const WINDOW: u8 = Refusal::Window as u8;
 const SHORT: u8 = Refusal::Short as u8;
 const UNSOUND: u8 = Refusal::Unsound as u8;
 

@@ -2,12 +2,14 @@
 //! their words spoiled now and then.
 
 use crate::call::{BoxCall, Face, HeadCall};
-use crate::inputs::{address, any_box, frame, relight, spoil, within, BOX, HEAD};
+use crate::inputs::{address, any_box, frame, relight, spoil, ticks, within, BOX, HEAD};
 use crate::judge::{
-    judge_box, judge_head, judge_next, judge_read, judge_write, BoxLent, HeadLent, Left,
+    judge_box, judge_box_until, judge_head, judge_head_until, judge_next, judge_read, judge_write,
+    BoxLent, HeadLent, Left,
 };
 use crustnewt::sys::{FRAME_OCTETS, HEAD_WORDS, LINK_WORDS, MESSAGE_WORDS};
 use crustnewt_tool::dice::Dice;
+use std::ops::Range;
 
 /// Frames kept to be heard again.
 const KEPT: usize = 16;
@@ -15,6 +17,10 @@ const KEPT: usize = 16;
 const OTHER_LENGTH: u64 = 60;
 /// Of a thousand calls, so many find a word spoiled.
 const SPOILED: u64 = 150;
+
+/// Where a box, and the first link of a table, have timers among their words.
+const BOX_TIMERS: Range<usize> = 3..10;
+const LINK_TIMERS: Range<usize> = 2..5;
 
 /// The world of one case.
 pub struct World<'a> {
@@ -46,12 +52,27 @@ impl<'a> World<'a> {
 
     /// Makes one call; the number that it answered, or what is wrong with it.
     pub fn step(&mut self) -> Result<u8, String> {
-        match self.dice.below(20) {
+        match self.dice.below(21) {
             0 => self.read(),
             1 => self.write(),
             2 => self.next(),
-            3..=10 => self.on_box(),
+            3 => self.until(),
+            4..=11 => self.on_box(),
             _ => self.on_head(),
+        }
+    }
+
+    fn until(&mut self) -> Result<u8, String> {
+        if self.dice.chance(500) {
+            let lent = self.box_lent();
+            told(judge_box_until(self.face, &lent), || {
+                format!("ticks until, {lent:?}")
+            })
+        } else {
+            let lent = self.head_lent();
+            told(judge_head_until(self.face, &lent), || {
+                format!("ticks until, {lent:?}")
+            })
         }
     }
 
@@ -142,6 +163,7 @@ impl<'a> World<'a> {
             words: self.length(enough.words),
             frames: self.length(enough.frames),
             reply: self.length(enough.reply),
+            made: self.length(enough.made),
             ..enough
         }
     }
@@ -160,18 +182,20 @@ impl<'a> World<'a> {
             links_words: enough.links_words + behind,
             output: self.length(enough.output),
             reply: self.length(enough.reply),
+            made: self.length(enough.made),
             ..enough
         }
     }
 
     fn box_call(&mut self) -> BoxCall {
         let dice = &mut self.dice;
-        match dice.below(10) {
+        match dice.below(12) {
             0 if dice.chance(500) => BoxCall::Fresh(address(dice)),
             0 | 1 => BoxCall::Fresh(BOX),
             2 => BoxCall::Register,
             3 if dice.chance(300) => BoxCall::Deregister,
             3..=5 => BoxCall::Tick,
+            6 | 7 => BoxCall::Advance(ticks(dice, &self.block[BOX_TIMERS])),
             _ => BoxCall::Hear(frame(dice, &self.frames), dice.half()),
         }
     }
@@ -181,7 +205,7 @@ impl<'a> World<'a> {
         let dice = &mut self.dice;
         let link = within(dice, links.min(2), links + 2);
         let (sync, pending) = (dice.below(80) as u32, dice.half() as u8);
-        match dice.below(12) {
+        match dice.below(14) {
             0 if dice.chance(500) => HeadCall::Fresh(address(dice)),
             0 => HeadCall::Fresh(HEAD),
             1 => HeadCall::Open(open(dice, &self.head)),
@@ -195,6 +219,10 @@ impl<'a> World<'a> {
                 HeadCall::Gate(link, grants, dice.half() as u8 & 3)
             }
             7 | 8 => HeadCall::Tick,
+            9 | 10 => {
+                let first = self.links.get(LINK_TIMERS).unwrap_or_default();
+                HeadCall::Advance(ticks(dice, first))
+            }
             _ => HeadCall::Hear(link, frame(dice, &self.frames)),
         }
     }

@@ -38,6 +38,34 @@ enum Flaw {
     StrayNotice,
     /// A sound head is refused where its link 2 is held.
     RefusesSound,
+    /// A refused advance of the box says that it made a tick.
+    MadeOfRefusal,
+    /// A refused advance of the head doesn't say what it made.
+    MadeUnsaid,
+    /// An advance of the box says one tick more than it was asked for.
+    MadeTooMany,
+    /// An advance of the head says that it made none.
+    MadeNone,
+    /// An advance says that it made one tick less than it did.
+    MadeOneLess,
+    /// A word behind the ticks made is written.
+    MadeBehind,
+    /// The ticks made are written though too little was lent.
+    MadeOfShort,
+    /// Too little for the ticks made is no reason to refuse.
+    MadeUnlent,
+    /// An advance by too many ticks makes as many as it may.
+    TakesMore,
+    /// A refused advance of the box counts all the same.
+    RefusedAdvances,
+    /// An advance of the head judges its number ahead of the output.
+    NineBeforeTwelve,
+    /// An advance of the box stops for no reason.
+    StopsEarly,
+    /// A box says that it is silent for a tick more than it is.
+    UntilMore,
+    /// An unsound head is said to be silent.
+    UntilUnsound,
 }
 
 struct Spoiled {
@@ -49,23 +77,51 @@ impl Spoiled {
     fn is(&self, flaw: Flaw) -> bool {
         self.flaw == flaw
     }
+
+    /// How far a box advances, spoiled before it does.
+    fn spoil_ticks(&self, call: &BoxCall) -> BoxCall {
+        match (self.flaw, call.ticks()) {
+            (Flaw::TakesMore, Some(65_537..)) => BoxCall::Advance(65_536),
+            (Flaw::StopsEarly, Some(ticks @ 2..65_537)) => BoxCall::Advance(ticks / 2),
+            _ => call.clone(),
+        }
+    }
+
+    /// What a box's advance says that it made, spoiled after it did.
+    fn spoil_made(&self, number: u8, ticks: u64, made: &mut [u64]) {
+        match (self.flaw, number) {
+            (Flaw::MadeOfRefusal, 1..100) => made[0] = 1,
+            (Flaw::MadeTooMany, 0) => made[0] = ticks + 1,
+            (Flaw::MadeOneLess, 0) if made[0] > 1 => made[0] -= 1,
+            (Flaw::MadeBehind, 0) => made.iter_mut().skip(1).for_each(|word| *word = 0),
+            (Flaw::MadeOfShort, 100) => made.fill(0),
+            _ => {}
+        }
+    }
 }
 
 impl Face for Spoiled {
-    fn on_box(&self, call: &BoxCall, mut memory: BoxMemory<'_>) -> u8 {
+    fn on_box(&self, call: &BoxCall, mut memory: BoxMemory<'_>, made: &mut [u64]) -> u8 {
+        let mut own = [0];
+        let unlent = made.is_empty() && self.is(Flaw::MadeUnlent);
+        let made = if unlent { &mut own[..] } else { made };
         let BoxMemory {
             block,
             frames,
             reply,
         } = &mut memory;
         let number = Library.on_box(
-            call,
+            &self.spoil_ticks(call),
             BoxMemory {
                 block,
                 frames,
                 reply,
             },
+            made,
         );
+        if let Some(ticks) = call.ticks() {
+            self.spoil_made(number, ticks, made);
+        }
         self.calls.set(self.calls.get() + 1);
         match (self.flaw, number) {
             (Flaw::StrangeNumber, 7) => return 15,
@@ -74,12 +130,14 @@ impl Face for Spoiled {
             (Flaw::StrayOctet, 0) => memory.frames[119] = 0,
             (Flaw::LeavesUnsound, 0) if *call == BoxCall::Register => memory.block[3] = 1,
             (Flaw::Moody, 0) => memory.block[1] ^= self.calls.get() & 1,
+            (Flaw::RefusedAdvances, 9) => memory.block[1] ^= 1,
             _ => {}
         }
         number
     }
 
-    fn on_head(&self, call: &HeadCall, mut memory: HeadMemory<'_>) -> u8 {
+    fn on_head(&self, call: &HeadCall, mut memory: HeadMemory<'_>, made: &mut [u64]) -> u8 {
+        let before = made.first().copied();
         let HeadMemory {
             head,
             links,
@@ -94,7 +152,16 @@ impl Face for Spoiled {
                 output,
                 reply,
             },
+            made,
         );
+        if call.ticks().is_some() {
+            match (self.flaw, number) {
+                (Flaw::MadeUnsaid, 1..100) => made[0] = before.unwrap_or(0),
+                (Flaw::MadeNone, 0) => made[0] = 0,
+                (Flaw::NineBeforeTwelve, 12) if call.ticks() == Some(0) => return 9,
+                _ => {}
+            }
+        }
         let behind = memory.links.len() / 5 * 5;
         match memory.links.get_mut(behind) {
             Some(word) if self.is(Flaw::StrayLink) && number == 0 => *word = 0,
@@ -108,6 +175,20 @@ impl Face for Spoiled {
             _ => {}
         }
         number
+    }
+
+    fn box_ticks_until(&self, block: &[u64]) -> u64 {
+        match Library.box_ticks_until(block) {
+            until @ 1..65_536 if self.is(Flaw::UntilMore) => until + 1,
+            until => until,
+        }
+    }
+
+    fn head_ticks_until(&self, head: &[u64], links: &[u64]) -> u64 {
+        match Library.head_ticks_until(head, links) {
+            0 if self.is(Flaw::UntilUnsound) => 1,
+            until => until,
+        }
     }
 
     fn next_to_send(&self, block: &[u64], control: &[u8], data: &[u8]) -> u8 {
@@ -164,6 +245,20 @@ fn each_flaw_is_found() {
         Flaw::TakesNobodys,
         Flaw::StrayNotice,
         Flaw::RefusesSound,
+        Flaw::MadeOfRefusal,
+        Flaw::MadeUnsaid,
+        Flaw::MadeTooMany,
+        Flaw::MadeNone,
+        Flaw::MadeOneLess,
+        Flaw::MadeBehind,
+        Flaw::MadeOfShort,
+        Flaw::MadeUnlent,
+        Flaw::TakesMore,
+        Flaw::RefusedAdvances,
+        Flaw::NineBeforeTwelve,
+        Flaw::StopsEarly,
+        Flaw::UntilMore,
+        Flaw::UntilUnsound,
     ] {
         let face = spoiled(flaw);
         let found = (0..200).any(|seed| fuzz(&face, seed, &mut [0; 256]).is_err());

@@ -10,7 +10,13 @@ impl Count {
     /// The count one tick later.
     #[must_use]
     pub const fn next(self) -> Count {
-        Count(self.0.wrapping_add(1))
+        self.after(1)
+    }
+
+    /// The count so many ticks later.
+    #[must_use]
+    pub const fn after(self, ticks: u32) -> Count {
+        Count(self.0.wrapping_add(ticks))
     }
 
     /// The distance from this count to `other`, in -2^31 .. 2^31 - 1.

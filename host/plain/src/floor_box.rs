@@ -1,5 +1,6 @@
 //! The box ("Steps of the box"): state, calls, and the order of tests.
 
+mod advance;
 mod sound;
 mod steps;
 
@@ -160,15 +161,7 @@ impl FloorBox {
     pub fn tick(&mut self) -> Result<BoxAnswer, Refusal> {
         require(self.is_sound(), Refusal::Unsound)?;
         require(!self.opens_unasked(), Refusal::UnaskedWindow)?;
-        self.count = self.count.next();
-        let ended = self.run_timers();
-        // Most ticks end nothing. Their empty answer is made where it is
-        // handed back, since moving a full one costs more than the tick.
-        if ended == Ended::default() {
-            self.activate();
-            return Ok(BoxAnswer::default());
-        }
-        Ok(self.act_on_ended(ended))
+        Ok(self.make_tick())
     }
 
     /// The part to send now: the control frame, the data frame, or the empty

@@ -1,5 +1,6 @@
 //! The head ("Steps of the head"): state, calls, and the order of tests.
 
+mod advance;
 mod hear;
 mod post;
 
@@ -239,23 +240,32 @@ impl Head {
     /// One quantum passes: "count, window, then links in order".
     pub fn tick(&mut self, links: &mut [Link], output: &mut [u8]) -> Answer {
         self.require_ready(links, output)?;
+        Ok(self.make_tick(links, output))
+    }
+
+    /// A tick that is not refused.
+    fn make_tick(&mut self, links: &mut [Link], output: &mut [u8]) -> HeadAnswer {
         self.count = self.count.next();
         self.window.run();
         let mut post = Post::new(self, output);
         for (place, link) in links.iter_mut().enumerate() {
             post.run_link(place, link);
         }
-        Ok(post.answer(None))
+        post.answer(None)
     }
 
     /// Tests 13 and 12, which every call that is lent an output begins with.
     fn require_ready(&self, links: &[Link], output: &[u8]) -> Result<(), Refusal> {
-        let sound = (1..=MOST_LINKS).contains(&links.len())
+        require(self.is_sound(links), Refusal::Unsound)?;
+        require(output.len() >= 60 * links.len(), Refusal::ShortOutput)
+    }
+
+    /// Whether every call may rest on this head and this table.
+    fn is_sound(&self, links: &[Link]) -> bool {
+        (1..=MOST_LINKS).contains(&links.len())
             && self.address.is_individual()
             && self.window.is_sound()
-            && are_sound(links);
-        require(sound, Refusal::Unsound)?;
-        require(output.len() >= 60 * links.len(), Refusal::ShortOutput)
+            && are_sound(links)
     }
 }
 

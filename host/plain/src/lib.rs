@@ -8,6 +8,7 @@
 //! state handed in, sound or not, and a refused call changes nothing.
 
 mod address;
+mod advance;
 mod clock;
 mod few;
 mod floor_box;
@@ -20,6 +21,7 @@ pub mod numbers;
 mod refusal;
 
 pub use address::Address;
+pub use advance::Advanced;
 pub use clock::Count;
 pub use few::Few;
 pub use floor_box::{BoxAnswer, BoxNotice, BoxState, FloorBox, Next};

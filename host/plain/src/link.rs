@@ -1,7 +1,7 @@
 //! One record of the head's table ("Sound table").
 
 use crate::address::Address;
-use crate::numbers::{runs, PERIOD, WAIT, WATCHDOG};
+use crate::numbers::{before_first_end, pass, runs, PERIOD, WAIT, WATCHDOG};
 
 /// One link of the head's table.
 #[derive(Clone, Copy, Debug, Default, PartialEq, Eq)]
@@ -64,6 +64,18 @@ impl Link {
     /// Whether a box holds it.
     pub fn is_held(&self) -> bool {
         self.state != LinkState::Idle
+    }
+
+    /// Ticks before the one in which a timer of it ends.
+    pub(crate) fn before_ring(&self) -> u32 {
+        before_first_end([self.wait, self.watchdog, self.periodic])
+    }
+
+    /// So many ticks in which no timer of it ends.
+    pub(crate) fn pass(&mut self, ticks: u32) {
+        for timer in [&mut self.wait, &mut self.watchdog, &mut self.periodic] {
+            pass(timer, ticks);
+        }
     }
 
     /// Whether the record is sound by itself.

@@ -20,6 +20,8 @@ pub const MOST_LINKS: usize = 64;
 pub const CONTROL_FRAME: u32 = 42;
 /// Pending grants told in a REGISTER_REQ: the room of the grant list.
 pub const PENDING: u8 = 16;
+/// Most ticks that one advance makes.
+pub const MOST_TICKS: u32 = 65_536;
 /// Ticks in one second; one tick is 16 ns.
 pub const TICKS_PER_SECOND: u64 = 62_500_000;
 
@@ -40,6 +42,23 @@ pub(crate) const fn runs(left: u32, longest: u32) -> bool {
     1 <= left && left <= longest
 }
 
+/// Ticks before the one in which the first of these timers ends; stopped ones
+/// (0) end in none.
+pub(crate) fn before_first_end<const N: usize>(timers: [u32; N]) -> u32 {
+    timers
+        .into_iter()
+        .filter_map(|left| left.checked_sub(1))
+        .min()
+        .unwrap_or(u32::MAX)
+}
+
+/// So many ticks of a timer that runs on after them, or is stopped.
+pub(crate) fn pass(left: &mut u32, ticks: u32) {
+    if *left > 0 {
+        *left -= ticks;
+    }
+}
+
 /// One tick of a running timer; true when it has run out.
 pub(crate) fn run_out(left: &mut u32) -> bool {
     *left -= 1;
@@ -58,6 +77,13 @@ mod tests {
     #[test]
     fn sum_6_no_length_serves_the_longest_sync() {
         assert!(needed_length(65_535) > LONGEST);
+    }
+
+    #[test]
+    fn the_first_end_is_that_of_a_running_timer() {
+        assert_eq!(before_first_end([0, 0]), u32::MAX);
+        assert_eq!(before_first_end([0, 7, 0, 9]), 6);
+        assert_eq!(before_first_end([u32::MAX, 1]), 0);
     }
 
     #[test]

@@ -6,7 +6,6 @@ mod head_client;
 mod progress;
 mod record;
 mod scenario;
-mod skip;
 mod timeline;
 mod world;
 

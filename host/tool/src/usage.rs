@@ -41,6 +41,10 @@ box, and prints what each call answered and the state that it left. A line
 that isn't of the replay language is answered `? N` with its number, and the
 replay goes on; such lines don't change the exit status.
 
+`head advance N` and `box advance N` make up to N ticks in one call and tell
+` made M` at the line's end; `head tick N`, `box tick N` and `both tick N` tell
+of each tick that hands something out, and take no longer for many quiet ones.
+
   --proved  play on the proved library (the default)
   --plain   play on the independent program, written from the rules alone
   --help    this text";
@@ -70,15 +74,16 @@ and a closing table.
                     rules alone
   --help            this text
 
-One second is 62,500,000 ticks. Ticks in which no timer ends and nothing
-arrives only move counts and timers, so the simulation sets these ahead in one
-go and makes only the other ticks; the timeline is the same with --every-tick,
-which takes some forty seconds of real time for a second of four boxes, and
-with --plain some six.
+One second is 62,500,000 ticks. Head and boxes are asked how long they surely
+have nothing to hand out, and all are advanced by that in one call each, or up
+to the next frame's arrival or act of a client; the timeline is the same with
+--every-tick, which takes some forty seconds of real time for a second of four
+boxes, and with --plain some six.
 Requests that meet on the fibre don't spoil each other.
 
 Exit status 1 if a half-open pair lasts longer than a frame's longest way and
-62,500,000 ticks, or if a state turns out unsound.";
+62,500,000 ticks, if a state turns out unsound, or if an advance makes fewer
+ticks than head and boxes promised.";
 
 /// The command that these words ask for.
 pub fn command(words: &[String]) -> Result<Command, Usage> {

@@ -89,10 +89,10 @@ fn no_half_open_pair_lasts_in_storm_and_dark() {
 }
 
 #[test]
-fn skipped_ticks_change_nothing() {
+fn advances_end_where_single_ticks_do() {
     // The second is long enough for retries and for rounds of gates.
     for (boxes, loss, ticks) in [(2, 0, 300_000), (1, 400, 3_500_000)] {
-        let skipping = Options {
+        let advancing = Options {
             boxes,
             loss,
             ticks,
@@ -100,8 +100,8 @@ fn skipped_ticks_change_nothing() {
         };
         let every_tick = Options {
             every_tick: true,
-            ..skipping
+            ..advancing
         };
-        assert_eq!(night(&skipping), night(&every_tick));
+        assert_eq!(night(&advancing), night(&every_tick));
     }
 }

@@ -128,3 +128,129 @@ fn both_tick_the_head_first_and_stop_at_a_refusal() {
         "{told}"
     );
 }
+
+/// An open window, a discovery grant, ends of every timer; one box is refused
+/// in its fifth tick.
+const BOXES: [&str; 8] = [
+    "box state 020000000031 4294967290 registered 0 90 30 1 10\nbox list 1 20 100\nbox light due 26 20 100 10\n",
+    "box state 020000000031 7 registered 0 200 1 1 0\nbox light open 50\n",
+    "box state 020000000031 7 registered 0 62500000 3125000 1 0\nbox list 3 5 80 50 73 60 100\n",
+    "box state 020000000031 7 registered 0 62500000 3 1 0\nbox light warming 5\n",
+    "box state 020000000031 0 registering 0 0 0 0 0\nbox light before 3 4 5\n",
+    "box state 020000000031 0 requesting 60 0 0 0 0\nbox light asking 42\n",
+    "box state 020000000031 4294967295 wait 0 0 0 0 0\n",
+    "box state 000000000000 0 wait 0 0 0 0 0\n",
+];
+
+/// Windows that open and close, links that ring alone and together, an output
+/// that is too short, an unsound table.
+const HEADS: [&str; 5] = [
+    "head new 2 020000000001\n",
+    "head new 2 020000000001\nhead state 020000000001 4294967290 before 10 5\n\
+     head link 1 registered 020000000031 0 90 40\nhead link 2 waiting 020000000032 30 0 0\n",
+    "head new 2 020000000001\nhead link 1 registered 020000000031 0 90 7\n\
+     head link 2 waiting 020000000032 7 0 0\n",
+    "head new 2 020000000001\nhead output 119\n",
+    "head new 2 020000000001\nhead link 1 idle 020000000031 0 0 0\n",
+];
+
+/// What `WHO tick TICKS` prints, put together from single ticks up to the
+/// first that is refused.
+fn by_single_ticks(before: &str, who: &str, ticks: usize) -> String {
+    let single = format!("{who} tick 1\n");
+    let told = told_after(before, &single.repeat(ticks));
+    let (mut lines, mut state) = (String::new(), String::new());
+    let mut made = 0;
+    let mut refused = false;
+    for line in told.split_inclusive('\n') {
+        match line.strip_prefix("@1 ") {
+            _ if line.starts_with("  ") => state.push_str(line),
+            _ if refused => break,
+            Some(told) => lines.push_str(&format!("@{} {told}", made + 1)),
+            None => {
+                refused = line == "ticked 0\n";
+                made += usize::from(!refused);
+                state.clear();
+            }
+        }
+    }
+    format!("{lines}ticked {made}\n{state}")
+}
+
+/// What lines answer after others.
+fn told_after(before: &str, lines: &str) -> String {
+    let told = answers(format!("{before}{lines}").as_bytes());
+    let told = told.strip_prefix(&answers(before.as_bytes())).unwrap();
+    told.to_owned()
+}
+
+#[test]
+fn a_tick_line_prints_what_single_ticks_do() {
+    for head in HEADS {
+        for floor_box in BOXES {
+            let before = format!("{head}{floor_box}");
+            for (who, ticks) in [("head", 100), ("box", 160), ("both", 160)] {
+                let told = told_after(&before, &format!("{who} tick {ticks}\n"));
+                let expected = by_single_ticks(&before, who, ticks);
+                assert_eq!(told, expected, "{before}{who}");
+            }
+        }
+    }
+}
+
+#[test]
+fn a_second_of_ticks_takes_no_time_and_tells_all_of_it() {
+    let before =
+        "head new 2 020000000001\nhead link 1 registered 020000000031 0 62500000 3125000\n\
+        box state 020000000031 0 registered 0 62500000 3125000 1 0\n";
+    let told = told_after(before, "both tick 62500001\n");
+    let lines: Vec<&str> = told.lines().collect();
+    // Twenty periods each; at the end of the last the watchdogs come first.
+    assert_eq!(lines.len(), 40 + 3, "{told}");
+    assert!(lines[0].starts_with("@3125000 head 0 frame 020000000031"));
+    assert!(lines[37].starts_with("@59375000 box 0 drift 0 frame 0180c2000001"));
+    assert!(lines[38].starts_with("@62500000 head 0 frame 020000000031"));
+    assert!(lines[39].ends_with(" notice deregistered"));
+    assert_eq!(lines[40], "ticked 62500001");
+    assert!(lines[41].starts_with("  head 020000000001 count 62500001 window idle"));
+    assert!(lines[42].starts_with("  box 020000000031 count 62500001 wait 0 0 0"));
+}
+
+#[test]
+fn an_advance_tells_how_many_ticks_it_made() {
+    let box_at = "box state 020000000031 1000 registered 0 62500000 100 0 0\n";
+    let state = |count, timers| {
+        format!("  box 020000000031 count {count} registered 0 {timers} port 0 sync 0 light rest 0 grants 0\n")
+    };
+    let made_50 = format!("box 0 drift 0 made 50\n{}", state(1050, "62499950 50"));
+    assert_eq!(told_after(box_at, "box advance 50\n"), made_50);
+    let report = frame("0180c2000001020000000031880800030000044c");
+    let left = state(1100, "62499900 3125000");
+    let made_100 = format!("box 0 drift 0 frame {report} made 100\n{left}");
+    assert_eq!(told_after(box_at, "box advance 65536\n"), made_100);
+    let stays = state(1000, "62500000 100");
+    for ticks in ["0", "65537", "4294967297", "18446744073709551615"] {
+        let told = told_after(box_at, &format!("box advance {ticks}\n"));
+        assert_eq!(told, format!("box 9 drift 0 made 0\n{stays}"));
+    }
+    let due = "box state 020000000031 0 registered 0 62500000 3125000 0 0\nbox light warming 5\n";
+    let told = told_after(due, "box advance 10\nbox advance 10\nbox advance 0\n");
+    let numbers: Vec<&str> = told.lines().step_by(2).collect();
+    let expected = ["0 drift 0 made 4", "14 drift 0 made 0", "9 drift 0 made 0"];
+    assert_eq!(numbers, expected.map(|told| format!("box {told}")));
+}
+
+#[test]
+fn an_advance_of_the_head_passes_its_window() {
+    let before = "head new 2 020000000001\nhead state 020000000001 0 before 10 5\n\
+        head link 1 registered 020000000031 0 62500000 40\nhead link 2 waiting 020000000032 30 0 0\n";
+    let gone = frame("020000000032020000000001880800050000001e000202");
+    let expected = format!(
+        "head 0 frame {gone} made 30\n  head 020000000001 count 30 window idle 0 0 links 2 \
+         registered 020000000031 0 62499970 10 idle 000000000000 0 0 0\n"
+    );
+    assert_eq!(told_after(before, "head advance 65536\n"), expected);
+    let short = format!("{before}head output 119\n");
+    assert!(told_after(&short, "head advance 0\n").starts_with("head 12 made 0\n"));
+    assert!(told_after(before, "head advance 0\n").starts_with("head 9 made 0\n"));
+}

@@ -2,7 +2,7 @@
 
 use super::messages::{frame_for, For};
 use super::states::{any_box, box_lines};
-use super::values::{address, HEAD};
+use super::values::{address, ticks_ahead, HEAD};
 use crustnewt_tool::dice::Dice;
 use crustnewt_tool::replay::hex;
 use plain::FloorBox;
@@ -13,6 +13,9 @@ pub(crate) fn script(dice: &mut Dice) -> Vec<String> {
     for _ in 0..states {
         let floor_box = any_box(dice);
         script.extend(box_lines(&floor_box));
+        for _ in 0..2 {
+            script.extend(advance_and_back(dice, &floor_box));
+        }
         let window = floor_box.light.window();
         if window > 0 {
             script.push(next(dice, window));
@@ -27,17 +30,39 @@ pub(crate) fn script(dice: &mut Dice) -> Vec<String> {
 
 fn call(dice: &mut Dice, floor_box: &FloorBox) -> String {
     let now = floor_box.count;
-    match dice.below(12) {
+    match dice.below(13) {
         0 => "box register".to_owned(),
         1 => "box deregister".to_owned(),
         2 | 3 => next(dice, floor_box.light.window()),
         4..=6 => format!("box tick {}", ticks(dice)),
+        7 => advance(dice, floor_box),
         _ => {
             let random = dice.pick(&[0, 1, 100, 101, 250, u32::MAX, now.0]);
             let frame = frame_for(dice, For::Box, now, HEAD);
             format!("box hear {random} {}", hex(&frame))
         }
     }
+}
+
+/// Advances a box that holds this, and sets it back.
+pub(crate) fn advance_and_back(dice: &mut Dice, floor_box: &FloorBox) -> Vec<String> {
+    let advance = advance(dice, floor_box);
+    [advance].into_iter().chain(box_lines(floor_box)).collect()
+}
+
+/// By about as much as a timer runs or a grant is away.
+fn advance(dice: &mut Dice, floor_box: &FloorBox) -> String {
+    let FloorBox {
+        wait,
+        watchdog,
+        report,
+        light,
+        ..
+    } = *floor_box;
+    let mut ends = vec![wait, watchdog, report, light.left()];
+    let starts = floor_box.grants.as_slice().iter().map(|grant| grant.start);
+    ends.extend(starts.filter_map(|start| floor_box.count.ticks_until(start)));
+    format!("box advance {}", ticks_ahead(dice, &ends))
 }
 
 /// Numbers of ticks at which phases begin and end.

@@ -1,6 +1,8 @@
 //! Cases that don't rest on chance: every state with every message, every
 //! timer at its ends, every length of output.
 
+mod advances;
+
 use super::states::{box_lines, head_line, link_line};
 use super::values::{BOX, HEAD};
 use crustnewt_tool::replay::hex;
@@ -23,6 +25,9 @@ pub(crate) fn cases() -> Vec<(&'static str, Vec<String>)> {
         ("head timers", head_timers()),
         ("lent outputs", outputs()),
         ("lent tables", tables()),
+        ("advances of the box", advances::of_boxes()),
+        ("advances of the head", advances::of_heads()),
+        ("advances worked out", advances::worked()),
     ]
 }
 

@@ -2,11 +2,11 @@
 
 use super::messages::{fitting, frame_for, frame_of, granted, For};
 use super::states::{any_head, any_links, head_line, link_line};
-use super::values::{address, near, quanta, sync, BOX, HEAD};
+use super::values::{address, near, quanta, sync, ticks_ahead, BOX, HEAD};
 use crustnewt_tool::dice::Dice;
 use crustnewt_tool::replay::hex;
 use plain::numbers::LONGEST_WINDOW;
-use plain::{Count, Link};
+use plain::{Count, Head, Link, Window};
 
 pub(crate) fn script(dice: &mut Dice) -> Vec<String> {
     let links = match dice.below(12) {
@@ -26,12 +26,13 @@ pub(crate) fn script(dice: &mut Dice) -> Vec<String> {
     for _ in 0..states {
         let head = any_head(dice);
         let table = any_links(dice, links as usize);
-        script.push(head_line(&head));
-        let lines = table.iter().enumerate();
-        script.extend(lines.map(|(place, link)| link_line(place + 1, link)));
+        script.extend(lines(&head, &table));
+        for _ in 0..2 {
+            script.extend(advance_and_back(dice, &head, &table));
+        }
         let calls = 1 + dice.below(6);
         for _ in 0..calls {
-            script.push(call(dice, head.count, &table));
+            script.push(call(dice, &head, &table));
         }
     }
     if dice.chance(200) {
@@ -51,9 +52,17 @@ fn output(dice: &mut Dice, needed: u64) -> String {
     format!("head output {}", octets.min(4096))
 }
 
-fn call(dice: &mut Dice, now: Count, table: &[Link]) -> String {
+/// The lines that set a head and its table.
+fn lines(head: &Head, table: &[Link]) -> Vec<String> {
+    let links = table.iter().enumerate();
+    let links = links.map(|(place, link)| link_line(place + 1, link));
+    [head_line(head)].into_iter().chain(links).collect()
+}
+
+fn call(dice: &mut Dice, head: &Head, table: &[Link]) -> String {
+    let now = head.count;
     let link = link_number(dice, table.len());
-    match dice.below(12) {
+    match dice.below(13) {
         0 => open(dice, now),
         1 => format!("head admit {}", newcomer(dice)),
         2 => format!("head reject {}", newcomer(dice)),
@@ -61,8 +70,28 @@ fn call(dice: &mut Dice, now: Count, table: &[Link]) -> String {
         4 => format!("head deregister {link}"),
         5 => gate(dice, link, now),
         6 | 7 => format!("head tick {}", dice.pick(&[1, 1, 2, 3, 42, 100])),
+        8 => advance(dice, head, table),
         _ => hear(dice, now, table),
     }
+}
+
+/// Advances a head that holds this, and sets it back.
+pub(crate) fn advance_and_back(dice: &mut Dice, head: &Head, table: &[Link]) -> Vec<String> {
+    let advance = advance(dice, head, table);
+    [advance].into_iter().chain(lines(head, table)).collect()
+}
+
+/// By about as much as a timer runs.
+fn advance(dice: &mut Dice, head: &Head, table: &[Link]) -> String {
+    let mut ends: Vec<u32> = match head.window {
+        Window::Idle => vec![],
+        Window::Before { left, length } => vec![left, left.wrapping_add(length)],
+        Window::Inside { left } => vec![left],
+    };
+    for link in table {
+        ends.extend([link.wait, link.watchdog, link.periodic]);
+    }
+    format!("head advance {}", ticks_ahead(dice, &ends))
 }
 
 pub(crate) fn open(dice: &mut Dice, now: Count) -> String {

@@ -3,8 +3,8 @@
 //! What they say depends on what they hear, so the script is written while
 //! the plain core plays it; the comparison then plays it again.
 
-use super::box_case::{next, ticks};
-use super::head_case::{gate, open};
+use super::box_case::{self, next, ticks};
+use super::head_case::{self, gate, open};
 use super::states::{box_lines, head_line, link_line};
 use super::values::{count, near, running, BOX, HEAD};
 use crustnewt_core::PlainCore;
@@ -90,6 +90,7 @@ impl Joint<'_> {
                 self.say(line);
             }
             8 if self.dice.chance(300) => self.hurry(),
+            9 if self.dice.chance(500) => self.look_ahead(),
             _ => {}
         }
         let ticks = ticks(self.dice);
@@ -136,6 +137,18 @@ impl Joint<'_> {
             hurry(self.dice, timer);
         }
         self.say(link_line(1, &link));
+    }
+
+    /// Advances both from where the run has led them, and sets them back: what
+    /// is handed out isn't sent, and the run goes on as if nothing had been.
+    fn look_ahead(&mut self) {
+        let floor_box = self.stage.floor_box.state();
+        let lines = box_case::advance_and_back(self.dice, &floor_box);
+        self.script.extend(lines);
+        let head = &self.stage.head;
+        let table: Vec<Link> = (0..head.links()).map(|place| head.link(place)).collect();
+        let lines = head_case::advance_and_back(self.dice, &head.state(), &table);
+        self.script.extend(lines);
     }
 
     /// Ticks on, handing over frames as they arrive.

@@ -28,6 +28,32 @@ pub(crate) fn running(dice: &mut Dice, longest: u32) -> u32 {
     edgy(dice, longest).clamp(1, longest.max(1))
 }
 
+/// How far to advance where something happens after so many ticks each (0:
+/// nothing does): about as far, near the ends of what one call may make, or
+/// somewhere else.
+pub(crate) fn ticks_ahead(dice: &mut Dice, ends: &[u32]) -> u64 {
+    let wide = [
+        0,
+        1,
+        2,
+        65_535,
+        65_536,
+        65_537,
+        (1 << 32) + 1,
+        (1 << 32) + 65_536,
+        u64::MAX,
+    ];
+    let ends = ends.iter().filter(|&&end| end > 0);
+    let ends: Vec<u64> = ends.map(|&end| u64::from(end)).collect();
+    match dice.below(8) {
+        0 | 1 => dice.pick(&wide),
+        2 | 3 => 65_536,
+        4 => dice.below(700),
+        _ if ends.is_empty() => 1 + dice.below(65_536),
+        _ => dice.pick(&ends) + dice.below(3) - 1,
+    }
+}
+
 /// A length or sync time that the wire can hold.
 pub(crate) fn quanta(dice: &mut Dice) -> u32 {
     let near = dice.pick(&[0, 10, 42, 73, 74, 75, 84, 174, 65_461, 65_462, 65_535]);

@@ -1,13 +1,18 @@
 //! Calls of the box.
 
+use super::advances::{self, require_answer, require_counted, require_made};
 use super::states::{is_sound_box, told, Told};
-use super::{both, require, require_judged, require_number, word, Left, DONE, RANGE, SHORT};
+use super::{
+    both, require, require_judged, require_number, word, Left, DONE, RANGE, SHORT, UNSOUND, WINDOW,
+};
 use crate::call::{BoxCall, Face};
 use crate::guarded::Guarded;
-use crustnewt::sys::{BoxMemory, BOX_FRAMES_OCTETS, BOX_REPLY_WORDS, BOX_WORDS, FRAME_OCTETS};
-use plain::{Address, Next};
+use crustnewt::sys::{
+    BoxMemory, BOX_FRAMES_OCTETS, BOX_REPLY_WORDS, BOX_WORDS, FRAME_OCTETS, MADE_WORDS,
+};
+use plain::{Address, Next, Refusal};
 
-/// A block, and how much is lent: words, octets, words.
+/// A block, and how much is lent: words, octets, words, words.
 #[derive(Clone, Debug, PartialEq, Eq)]
 pub struct BoxLent {
     /// The block.
@@ -18,6 +23,8 @@ pub struct BoxLent {
     pub frames: usize,
     /// Words for the reply.
     pub reply: usize,
+    /// Words for the ticks made.
+    pub made: usize,
 }
 
 impl BoxLent {
@@ -28,11 +35,15 @@ impl BoxLent {
             words: BOX_WORDS,
             frames: BOX_FRAMES_OCTETS,
             reply: BOX_REPLY_WORDS,
+            made: MADE_WORDS,
         }
     }
 
-    fn is_short(&self) -> bool {
-        self.words < BOX_WORDS || self.frames < BOX_FRAMES_OCTETS || self.reply < BOX_REPLY_WORDS
+    fn is_short(&self, call: &BoxCall) -> bool {
+        self.words < BOX_WORDS
+            || self.frames < BOX_FRAMES_OCTETS
+            || self.reply < BOX_REPLY_WORDS
+            || advances::is_short(call.ticks(), self.made)
     }
 }
 
@@ -41,6 +52,7 @@ struct Memory {
     block: Guarded<u64>,
     frames: Guarded<u8>,
     reply: Guarded<u64>,
+    made: Guarded<u64>,
 }
 
 const DRIFT: usize = 0;
@@ -58,6 +70,10 @@ pub fn judge_box(face: &dyn Face, call: &BoxCall, lent: &BoxLent) -> Result<Left
     let left = both(|filler| judge_with(face, call, lent, filler))?;
     if left.number == DONE {
         require(is_sound_box(&left.block), "a call left an unsound box")?;
+        if let Some(asked) = call.ticks() {
+            require_counted(&lent.block, &left.block, left.made)?;
+            require_stopped(asked, &left)?;
+        }
     }
     if left.number != SHORT {
         require_state(left.number, call, &lent.block)?;
@@ -65,10 +81,28 @@ pub fn judge_box(face: &dyn Face, call: &BoxCall, lent: &BoxLent) -> Result<Left
     Ok(left)
 }
 
+/// An advance that made fewer ticks than it was asked for handed something out,
+/// or the next tick would be refused.
+fn require_stopped(asked: u64, left: &Left) -> Result<(), String> {
+    let silent = left.frames.is_empty() && left.reply[NUMBER] == 0;
+    if left.made == asked || !silent {
+        return Ok(());
+    }
+    let Told::State(mut state) = told(&left.block) else {
+        return Err("an advance left no state".to_owned());
+    };
+    let refused = state.tick() == Err(Refusal::UnaskedWindow);
+    require(refused, "an advance stopped early")
+}
+
 /// The number rests on the words that were handed in, and a fresh box's on its
 /// address.
 fn require_state(number: u8, call: &BoxCall, block: &[u64]) -> Result<(), String> {
     let heard = match call {
+        BoxCall::Advance(asked) => {
+            let ahead = (!is_sound_box(block)).then_some(UNSOUND);
+            return require_answer(number, *asked, ahead, Some(WINDOW));
+        }
         BoxCall::Fresh(address) => {
             let party = Address(*address).is_individual();
             let number_of_fresh = if party { DONE } else { RANGE };
@@ -85,6 +119,7 @@ fn judge_with(face: &dyn Face, call: &BoxCall, lent: &BoxLent, filler: u8) -> Re
         block: Guarded::new(&lent.block, lent.words, word(filler)),
         frames: Guarded::new(&[], lent.frames, filler),
         reply: Guarded::new(&[], lent.reply, word(filler)),
+        made: Guarded::new(&[], lent.made, word(filler)),
     };
     let number = face.on_box(
         call,
@@ -93,14 +128,19 @@ fn judge_with(face: &dyn Face, call: &BoxCall, lent: &BoxLent, filler: u8) -> Re
             frames: memory.frames.lend(),
             reply: memory.reply.lend(),
         },
+        memory.made.lend(),
     );
-    require_number(number, lent.is_short())?;
+    require_number(number, lent.is_short(call))?;
     match number {
         SHORT => memory.require_untouched()?,
         DONE => memory.require_told(call)?,
         _ => memory.require_refused(call)?,
     }
-    Ok(memory.left(number, &lent.block))
+    let made = require_made(&memory.made, call.ticks(), number)?;
+    Ok(Left {
+        made,
+        ..memory.left(number, &lent.block)
+    })
 }
 
 impl Memory {
@@ -167,8 +207,33 @@ impl Memory {
             links: Vec::new(),
             reply: reply[..told].to_vec(),
             frames: self.frames.now()[..FRAME_OCTETS * reply[FRAMES] as usize].to_vec(),
+            made: 0,
         }
     }
+}
+
+/// Asks how long a box is silent and holds the answer against the header.
+pub fn judge_box_until(face: &dyn Face, lent: &BoxLent) -> Result<Left, String> {
+    both(|filler| {
+        let mut block = Guarded::new(&lent.block, lent.words, word(filler));
+        let until = face.box_ticks_until(block.lend());
+        require(
+            block.is_kept(),
+            "asking how long it is silent changed a box",
+        )?;
+        let right = match told(&lent.block) {
+            Told::State(state) if lent.words >= BOX_WORDS => state.ticks_until(),
+            _ => 0,
+        };
+        require(
+            until == u64::from(right),
+            "a box is silent for another time",
+        )?;
+        Ok(Left {
+            made: until,
+            ..Left::default()
+        })
+    })
 }
 
 /// Asks for the next frame to send and holds the answer against the header.

@@ -1,17 +1,19 @@
 //! Calls of the head.
 
-use super::states::is_sound_head;
+use super::advances::{self, require_answer, require_counted, require_made};
+use super::states::{head_of, is_sound_head};
 use super::{
-    both, require, require_judged, require_number, word, Left, DONE, RANGE, SHORT, UNSOUND,
+    both, require, require_judged, require_number, word, Left, DONE, OUTPUT, RANGE, SHORT, UNSOUND,
 };
 use crate::call::{Face, HeadCall};
 use crate::guarded::Guarded;
 use crustnewt::sys::{
-    HeadMemory, FRAME_OCTETS, HEAD_REPLY_WORDS, HEAD_WORDS, LINK_WORDS, MOST_LINKS,
+    HeadMemory, FRAME_OCTETS, HEAD_REPLY_WORDS, HEAD_WORDS, LINK_WORDS, MADE_WORDS, MOST_LINKS,
 };
 use plain::Address;
 
-/// A head and its table, and how much is lent: words, words, octets, words.
+/// A head and its table, and how much is lent: words, words, octets, words,
+/// words.
 #[derive(Clone, Debug, PartialEq, Eq)]
 pub struct HeadLent {
     /// The head's block.
@@ -26,6 +28,8 @@ pub struct HeadLent {
     pub output: usize,
     /// Words for the reply.
     pub reply: usize,
+    /// Words for the ticks made.
+    pub made: usize,
 }
 
 impl HeadLent {
@@ -38,11 +42,14 @@ impl HeadLent {
             links_words: links.len(),
             output: FRAME_OCTETS * (links.len() / LINK_WORDS),
             reply: HEAD_REPLY_WORDS,
+            made: MADE_WORDS,
         }
     }
 
-    fn is_short(&self) -> bool {
-        self.words < HEAD_WORDS || self.reply < HEAD_REPLY_WORDS
+    fn is_short(&self, call: &HeadCall) -> bool {
+        self.words < HEAD_WORDS
+            || self.reply < HEAD_REPLY_WORDS
+            || advances::is_short(call.ticks(), self.made)
     }
 
     fn number_of_links(&self) -> usize {
@@ -56,6 +63,7 @@ struct Memory {
     links: Guarded<u64>,
     output: Guarded<u8>,
     reply: Guarded<u64>,
+    made: Guarded<u64>,
 }
 
 const FRAMES: usize = 0;
@@ -71,6 +79,11 @@ pub fn judge_head(face: &dyn Face, call: &HeadCall, lent: &HeadLent) -> Result<L
     if left.number == DONE {
         let sound = is_sound_head(&left.block, &left.links);
         require(sound, "a call left an unsound head")?;
+        if let Some(asked) = call.ticks() {
+            require_counted(&lent.head, &left.block, left.made)?;
+            let stopped = left.made == asked || !left.frames.is_empty();
+            require(stopped, "an advance stopped early")?;
+        }
     }
     if left.number != SHORT {
         require_state(left.number, call, lent)?;
@@ -89,6 +102,7 @@ fn judge_with(
         links: Guarded::new(&lent.links, lent.links_words, word(filler)),
         output: Guarded::new(&[], lent.output, filler),
         reply: Guarded::new(&[], lent.reply, word(filler)),
+        made: Guarded::new(&[], lent.made, word(filler)),
     };
     let number = face.on_head(
         call,
@@ -98,15 +112,20 @@ fn judge_with(
             output: memory.output.lend(),
             reply: memory.reply.lend(),
         },
+        memory.made.lend(),
     );
-    require_number(number, lent.is_short())?;
+    require_number(number, lent.is_short(call))?;
     let links = lent.number_of_links();
     match number {
         SHORT => memory.require_untouched()?,
         DONE => memory.require_told(call, links)?,
         _ => memory.require_refused(call, number)?,
     }
-    Ok(memory.left(number, lent))
+    let made = require_made(&memory.made, call.ticks(), number)?;
+    Ok(Left {
+        made,
+        ..memory.left(number, lent)
+    })
 }
 
 /// The number rests on the words that were handed in and on how much was lent,
@@ -129,6 +148,14 @@ fn require_state(number: u8, call: &HeadCall, lent: &HeadLent) -> Result<(), Str
     let enough = lent.output >= FRAME_OCTETS * links;
     require(enough || number != DONE, "a short output was served")?;
     let sound = allowed && is_sound_head(&lent.head, &lent.links);
+    if let Some(asked) = call.ticks() {
+        let ahead = match (sound, enough) {
+            (false, _) => Some(UNSOUND),
+            (true, false) => Some(OUTPUT),
+            (true, true) => None,
+        };
+        return require_answer(number, asked, ahead, None);
+    }
     require_judged(number, heard, sound)
 }
 
@@ -169,7 +196,8 @@ impl Memory {
         let [frames, number, kind, link, trip] = self.reply.now()[..HEAD_REPLY_WORDS] else {
             return Err("no reply".to_owned());
         };
-        let most = if *call == HeadCall::Tick { links } else { 1 };
+        let ticks = *call == HeadCall::Tick || call.ticks().is_some();
+        let most = if ticks { links } else { 1 };
         require(frames <= most as u64, "more frames than the call can have")?;
         let heard = u64::from(matches!(call, HeadCall::Hear(..)));
         require(number <= heard, "more notices than the call can have")?;
@@ -196,6 +224,28 @@ impl Memory {
             links: self.links.now()[..LINK_WORDS * lent.number_of_links()].to_vec(),
             reply: reply[..NOTICE + NOTICE_WORDS * reply[NUMBER] as usize].to_vec(),
             frames: self.output.now()[..FRAME_OCTETS * reply[FRAMES] as usize].to_vec(),
+            made: 0,
         }
     }
+}
+
+/// Asks how long a head is silent and holds the answer against the header.
+pub fn judge_head_until(face: &dyn Face, lent: &HeadLent) -> Result<Left, String> {
+    both(|filler| {
+        let mut head = Guarded::new(&lent.head, lent.words, word(filler));
+        let mut links = Guarded::new(&lent.links, lent.links_words, word(filler));
+        let until = face.head_ticks_until(head.lend(), links.lend());
+        let kept = head.is_kept() && links.is_kept();
+        require(kept, "asking how long it is silent changed a head")?;
+        let right = match head_of(&lent.head, &lent.links) {
+            Some((head, links)) if lent.words >= HEAD_WORDS => head.ticks_until(&links),
+            _ => 0,
+        };
+        let right = until == u64::from(right);
+        require(right, "a head is silent for another time")?;
+        Ok(Left {
+            made: until,
+            ..Left::default()
+        })
+    })
 }

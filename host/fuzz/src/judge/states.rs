@@ -104,11 +104,15 @@ fn light(words: &[u64]) -> Option<Light> {
     held.then_some(light)
 }
 
+/// The head and the table of these words; `None` where they are nobody's.
+pub fn head_of(head: &[u64], links: &[u64]) -> Option<(Head, Vec<Link>)> {
+    let table: Option<Vec<Link>> = links.chunks_exact(LINK_WORDS).map(link).collect();
+    Some((window(head)?, table?))
+}
+
 /// Whether head and table are sound.
 pub fn is_sound_head(head: &[u64], links: &[u64]) -> bool {
-    let table = links.chunks_exact(LINK_WORDS).map(link);
-    let (Some(mut head), Some(mut table)) = (window(head), table.collect::<Option<Vec<_>>>())
-    else {
+    let Some((mut head, mut table)) = head_of(head, links) else {
         return false;
     };
     let mut output = vec![0; FRAME_OCTETS * table.len()];

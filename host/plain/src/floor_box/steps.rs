@@ -116,8 +116,22 @@ impl FloorBox {
         self.grants = GrantList::new();
     }
 
+    /// A tick that is not refused.
+    #[inline]
+    pub(super) fn make_tick(&mut self) -> BoxAnswer {
+        self.count = self.count.next();
+        let ended = self.run_timers();
+        // Most ticks end nothing. Their empty answer is made where it is
+        // handed back, since moving a full one costs more than the tick.
+        if ended == Ended::default() {
+            self.activate();
+            return BoxAnswer::default();
+        }
+        self.act_on_ended(ended)
+    }
+
     /// One tick of every running timer.
-    pub(super) fn run_timers(&mut self) -> Ended {
+    fn run_timers(&mut self) -> Ended {
         let registered = self.state == BoxState::Registered;
         Ended {
             registration: match self.state {
@@ -133,7 +147,7 @@ impl FloorBox {
     /// What the ends of timers lead to: "registration timer, report timer,
     /// transmitter, each judged on the state so far". A box that has just
     /// entered WAIT has stopped the others.
-    pub(super) fn act_on_ended(&mut self, ended: Ended) -> BoxAnswer {
+    fn act_on_ended(&mut self, ended: Ended) -> BoxAnswer {
         let mut answer = BoxAnswer::default();
         if ended.registration {
             self.end_registration(&mut answer);
@@ -199,8 +213,7 @@ impl FloorBox {
 
     /// "Activation, when at rest and REGISTERED, at the end of every call."
     pub(super) fn activate(&mut self) {
-        let ready = self.state == BoxState::Registered && self.light == Light::Rest;
-        if !ready || self.grants.is_empty() {
+        if !self.has_to_choose() {
             return;
         }
         let sync = self.sync;
@@ -210,6 +223,11 @@ impl FloorBox {
                 _ => Light::Due { left, grant, sync },
             };
         }
+    }
+
+    /// Whether activation finds something to do.
+    pub(super) fn has_to_choose(&self) -> bool {
+        self.state == BoxState::Registered && self.light == Light::Rest && !self.grants.is_empty()
     }
 
     /// "The box's frames go from its own address to 01-80-C2-00-00-01 with

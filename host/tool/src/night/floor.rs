@@ -54,10 +54,11 @@ impl Floor {
         self.waiting.clear();
     }
 
-    /// The tick at which a waiting frame may be sent next.
-    pub(super) fn next_sending(&self) -> u64 {
-        let window_open = self.floor_box.state().light.window() > 0;
-        if self.waiting.is_empty() || !window_open {
+    /// The tick after now at which a waiting frame may be sent next, if no
+    /// other is handed out and no window opens before. A frame that didn't fit
+    /// when the fibre was free won't fit what is left of the window later.
+    pub(super) fn next_sending(&self, now: u64) -> u64 {
+        if self.waiting.is_empty() || self.busy_until <= now {
             return u64::MAX;
         }
         self.busy_until

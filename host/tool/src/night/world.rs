@@ -9,12 +9,12 @@ use super::head_client::{link_of, link_state, HeadClient};
 use super::progress::Progress;
 use super::record::Pair;
 use super::scenario::Event;
-use super::skip;
 use super::timeline::Timeline;
 use super::Options;
 use crate::dice::Dice;
-use crustnewt_core::{Core, HeadCore, HeadReply};
+use crustnewt_core::{Advanced, Core, HeadCore, HeadReply};
 use plain::frame::{RegisterFlag, RequestFlag, FRAME_OCTETS};
+use plain::numbers::MOST_TICKS;
 use plain::{Address, Body, Frame, Message, Refusal};
 use std::io::{self, Write};
 
@@ -44,6 +44,8 @@ pub(super) struct World<'a, W> {
     /// Whether something other than counts and timers has changed.
     stirred: bool,
     unsound: u64,
+    /// Advances that made another number of ticks than they had to.
+    astray: u64,
 }
 
 impl<'a, W: Write> World<'a, W> {
@@ -69,6 +71,7 @@ impl<'a, W: Write> World<'a, W> {
             timeline: Timeline { output },
             stirred: true,
             unsound: 0,
+            astray: 0,
         }
     }
 
@@ -82,9 +85,10 @@ impl<'a, W: Write> World<'a, W> {
         ))?;
         self.act()?;
         while self.now < self.options.ticks {
-            match self.quiet_ticks() {
-                0 => self.tick()?,
-                ticks => self.pass(ticks),
+            if self.options.every_tick {
+                self.tick()?;
+            } else {
+                self.advance()?;
             }
             self.deliver()?;
             self.act()?;
@@ -96,51 +100,48 @@ impl<'a, W: Write> World<'a, W> {
         self.close()
     }
 
-    /// Ticks that only move counts and timers, 0 if all are to be made.
-    fn quiet_ticks(&self) -> u32 {
-        if self.options.every_tick {
-            return 0;
-        }
-        let links = (0..self.head.links()).map(|place| skip::link_quiet(&self.head.link(place)));
-        let boxes = self
-            .floors
-            .iter()
-            .map(|floor| skip::box_quiet(&floor.floor_box.state()));
-        let parties = links.chain(boxes).fold(u64::MAX, u64::min);
-        let quiet = parties
-            .min(skip::head_quiet(&self.head.state()))
-            .min(self.next_event().saturating_sub(self.now));
-        u32::try_from(quiet).unwrap_or(u32::MAX)
-    }
-
     /// The next tick at which something is to be done.
     fn next_event(&self) -> u64 {
         let event = self.events.first().map_or(u64::MAX, |(at, _)| *at);
         self.floors
             .iter()
-            .map(Floor::next_sending)
+            .map(|floor| floor.next_sending(self.now))
             .fold(self.options.ticks, u64::min)
             .min(event)
             .min(self.client.next_action())
             .min(self.fibre.next_arrival())
     }
 
-    /// Passes quiet ticks in one go.
-    fn pass(&mut self, ticks: u32) {
-        let mut head = self.head.state();
-        skip::pass_head(&mut head, ticks);
-        self.head.set_state(&head);
-        for place in 0..self.head.links() {
-            let mut link = self.head.link(place);
-            skip::pass_link(&mut link, ticks);
-            self.head.set_link(place, &link);
+    /// Ticks up to the next one in which somebody may hand something out, or
+    /// after which something is to be done.
+    fn ticks_ahead(&self) -> u64 {
+        let boxes = self
+            .floors
+            .iter()
+            .map(|floor| floor.floor_box.ticks_until());
+        let silent = boxes.fold(self.head.ticks_until(), u64::min);
+        let planned = self.next_event().saturating_sub(self.now).max(1);
+        (silent + 1).min(planned).min(MOST_TICKS.into())
+    }
+
+    /// So many ticks of the head and then of every box. None stops earlier:
+    /// nobody hands out anything before the last of them.
+    fn advance(&mut self) -> io::Result<()> {
+        let ticks = self.ticks_ahead();
+        self.now += ticks;
+        let Advanced { reply, made } = self.head.advance(ticks);
+        self.astray += u64::from(made != ticks);
+        if !reply.is_quiet() {
+            self.post(&reply, false)?;
         }
-        for floor in &mut self.floors {
-            let mut state = floor.floor_box.state();
-            skip::pass_box(&mut state, ticks);
-            floor.floor_box.set_state(&state);
+        for index in 0..self.floors.len() {
+            let Advanced { reply, made } = self.floors[index].floor_box.advance(ticks);
+            self.astray += u64::from(made != ticks);
+            if !reply.is_quiet() {
+                self.hear_box(index, &reply, Cause::Tick)?;
+            }
         }
-        self.now += u64::from(ticks);
+        Ok(())
     }
 
     /// One tick of the head and then of every box.

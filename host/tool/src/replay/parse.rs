@@ -38,6 +38,7 @@ pub enum Call {
     HeadGate(GateRequest),
     HeadHear { link: u64, frame: Vec<u8> },
     HeadTick(u64),
+    HeadAdvance(u64),
     HeadState(Head),
     HeadLink { number: u64, link: Link },
     BoxNew(Address),
@@ -46,6 +47,7 @@ pub enum Call {
     BoxHear { random: u32, frame: Vec<u8> },
     BoxNext { control: usize, data: usize },
     BoxTick(u64),
+    BoxAdvance(u64),
     BoxState(FloorBox),
     BoxList(GrantList),
     BoxLight(Light),
@@ -104,6 +106,7 @@ fn head_call(words: &mut Words<'_>) -> Option<Call> {
             frame: words.frame()?,
         },
         b"tick" => Call::HeadTick(words.number()?),
+        b"advance" => Call::HeadAdvance(words.number()?),
         b"state" => Call::HeadState(Head {
             address: words.address()?,
             count: Count(words.number()?),
@@ -131,6 +134,7 @@ fn box_call(words: &mut Words<'_>) -> Option<Call> {
             data: words.at_most(MOST_OCTETS)?,
         },
         b"tick" => Call::BoxTick(words.number()?),
+        b"advance" => Call::BoxAdvance(words.number()?),
         b"state" => Call::BoxState(box_line(words)?),
         b"list" => Call::BoxList(grant_list(words)?),
         b"light" => Call::BoxLight(light(words)?),
@@ -361,6 +365,8 @@ mod tests {
         assert!(!known("head tick 18446744073709551616"));
         assert!(known("head tick 00000000000000000001"));
         assert!(!known("head tick 000000000000000000001"));
+        assert!(known("box advance 18446744073709551615"));
+        assert!(!known("head advance 18446744073709551616"));
         assert!(known("box hear 4294967295 -"));
         assert!(!known("box hear 4294967296 -"));
         assert!(known("head reregister 1 65535"));
@@ -376,6 +382,7 @@ mod tests {
         assert!(!known("box register "));
         assert!(!known("box register\r"));
         assert!(!known("box register now"));
+        assert!(!known("head advance") && !known("both advance 1"));
     }
 
     #[test]

@@ -62,7 +62,7 @@ fn body(out: &mut impl Write, body: &Body) -> io::Result<()> {
     }
 }
 
-/// What a call of the head answered.
+/// What a call of the head answered, without the line's end.
 pub(super) fn head_reply(out: &mut impl Write, reply: &HeadReply, output: &[u8]) -> io::Result<()> {
     write!(out, "head {}", reply.number)?;
     for frame in output.chunks(FRAME_OCTETS).take(reply.frames) {
@@ -77,10 +77,10 @@ pub(super) fn head_reply(out: &mut impl Write, reply: &HeadReply, output: &[u8])
         };
         write!(out, " notice {kind} {} {}", notice.link, notice.trip)?;
     }
-    writeln!(out)
+    Ok(())
 }
 
-/// What a call of the box answered.
+/// What a call of the box answered, without the line's end.
 pub(super) fn box_reply(out: &mut impl Write, reply: &BoxReply) -> io::Result<()> {
     write!(out, "box {} drift {}", reply.number, reply.drift)?;
     for frame in reply.frames.iter() {
@@ -89,7 +89,7 @@ pub(super) fn box_reply(out: &mut impl Write, reply: &BoxReply) -> io::Result<()
     for notice in reply.notices.iter() {
         box_notice(out, notice)?;
     }
-    writeln!(out)
+    Ok(())
 }
 
 fn box_notice(out: &mut impl Write, notice: &BoxNotice) -> io::Result<()> {

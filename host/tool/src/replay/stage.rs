@@ -2,7 +2,8 @@
 
 use super::parse::Call;
 use super::print;
-use crustnewt_core::{BoxCore, BoxReply, Core, HeadCore, HeadReply};
+use crustnewt_core::{Advanced, BoxCore, BoxReply, Core, HeadCore, HeadReply};
+use plain::numbers::MOST_TICKS;
 use plain::{FloorBox, Link, Next};
 use std::io::{self, Write};
 
@@ -51,15 +52,19 @@ impl Stage<'_> {
             Call::HeadTick(ticks) => self.tick(Who::Head, *ticks, out)?,
             Call::BoxTick(ticks) => self.tick(Who::Box, *ticks, out)?,
             Call::BothTick(ticks) => self.tick(Who::Both, *ticks, out)?,
+            Call::HeadAdvance(ticks) => self.advance_head(*ticks, out)?,
+            Call::BoxAdvance(ticks) => self.advance_box(*ticks, out)?,
             Call::BoxNext { control, data } => {
                 writeln!(out, "next {}", next(self.floor_box.next(*control, *data)))?;
             }
             call => {
                 if let Some(reply) = self.head_reply(call) {
                     print::head_reply(out, &reply, self.head.output())?;
+                    writeln!(out)?;
                     print::head_state(out, &*self.head)?;
                 } else if let Some(reply) = self.box_reply(call) {
                     print::box_reply(out, &reply)?;
+                    writeln!(out)?;
                     print::box_state(out, &self.floor_box.state())?;
                 }
             }
@@ -104,44 +109,98 @@ impl Stage<'_> {
         }
     }
 
+    fn advance_head(&mut self, ticks: u64, out: &mut impl Write) -> io::Result<()> {
+        let Advanced { reply, made } = self.head.advance(ticks);
+        print::head_reply(out, &reply, self.head.output())?;
+        writeln!(out, " made {made}")?;
+        print::head_state(out, &*self.head)
+    }
+
+    fn advance_box(&mut self, ticks: u64, out: &mut impl Write) -> io::Result<()> {
+        let Advanced { reply, made } = self.floor_box.advance(ticks);
+        print::box_reply(out, &reply)?;
+        writeln!(out, " made {made}")?;
+        print::box_state(out, &self.floor_box.state())
+    }
+
     /// Ticks head, box, or the head and then the box, until one refuses.
     fn tick(&mut self, who: Who, ticks: u64, out: &mut impl Write) -> io::Result<()> {
-        let (head, floor_box) = (who != Who::Box, who != Who::Head);
         let mut made = 0;
-        while made < ticks
-            && (!head || self.tick_head(made + 1, out)?)
-            && (!floor_box || self.tick_box(made + 1, out)?)
-        {
-            made += 1;
+        while made < ticks {
+            let Some(step) = self.step(who, made, ticks - made, out)? else {
+                break;
+            };
+            made += step;
         }
         writeln!(out, "ticked {made}")?;
-        if head {
+        if who != Who::Box {
             print::head_state(out, &*self.head)?;
         }
-        if floor_box {
+        if who != Who::Head {
             print::box_state(out, &self.floor_box.state())?;
         }
         Ok(())
     }
 
-    /// The head's tick of number `at`; false if it was refused.
-    fn tick_head(&mut self, at: u64, out: &mut impl Write) -> io::Result<bool> {
-        let reply = self.head.tick();
-        if !reply.is_quiet() {
-            write!(out, "@{at} ")?;
-            print::head_reply(out, &reply, self.head.output())?;
+    /// Makes some of the ticks that are left, at least one: as many at once as
+    /// print what single ones would. `None` if one was refused.
+    fn step(
+        &mut self,
+        who: Who,
+        made: u64,
+        left: u64,
+        out: &mut impl Write,
+    ) -> io::Result<Option<u64>> {
+        match who {
+            Who::Head => self.tick_head(made, left, out),
+            Who::Box => self.tick_box(made, left, out),
+            Who::Both => {
+                let silent = self.head.ticks_until().min(self.floor_box.ticks_until());
+                let together = silent.clamp(1, left);
+                let Some(head) = self.tick_head(made, together, out)? else {
+                    return Ok(None);
+                };
+                let Some(floor_box) = self.tick_box(made, together, out)? else {
+                    return Ok(None);
+                };
+                assert_eq!([head, floor_box], [together; 2], "silent ticks aren't made");
+                Ok(Some(together))
+            }
         }
-        Ok(reply.number == 0)
     }
 
-    /// The box's tick of number `at`; false if it was refused.
-    fn tick_box(&mut self, at: u64, out: &mut impl Write) -> io::Result<bool> {
-        let reply = self.floor_box.tick();
+    /// Ticks the head, which has made some already, as often as is asked or up
+    /// to the first tick that tells something; `None` if that is refused.
+    fn tick_head(
+        &mut self,
+        made: u64,
+        ticks: u64,
+        out: &mut impl Write,
+    ) -> io::Result<Option<u64>> {
+        let Advanced { reply, made: step } = match ticks {
+            1 => single(self.head.tick()),
+            _ => self.head.advance(ticks.min(MOST_TICKS.into())),
+        };
         if !reply.is_quiet() {
-            write!(out, "@{at} ")?;
-            print::box_reply(out, &reply)?;
+            write!(out, "@{} ", made + step.max(1))?;
+            print::head_reply(out, &reply, self.head.output())?;
+            writeln!(out)?;
         }
-        Ok(reply.number == 0)
+        Ok(accepted(reply.number, step, ticks))
+    }
+
+    /// The same for the box.
+    fn tick_box(&mut self, made: u64, ticks: u64, out: &mut impl Write) -> io::Result<Option<u64>> {
+        let Advanced { reply, made: step } = match ticks {
+            1 => single(self.floor_box.tick()),
+            _ => self.floor_box.advance(ticks.min(MOST_TICKS.into())),
+        };
+        if !reply.is_quiet() {
+            write!(out, "@{} ", made + step.max(1))?;
+            print::box_reply(out, &reply)?;
+            writeln!(out)?;
+        }
+        Ok(accepted(reply.number, step, ticks))
     }
 
     /// Sets link `number`, from 1; false if the table has no such link.
@@ -167,6 +226,22 @@ fn set_line(state: &mut FloorBox, line: &FloorBox) {
         grants: state.grants,
         ..*line
     };
+}
+
+/// A single tick as an advance by one.
+fn single<R>(reply: R) -> Advanced<R> {
+    Advanced { reply, made: 1 }
+}
+
+/// The ticks made, `None` if they were refused. A core that tells a number
+/// that can't be would be asked for ever.
+fn accepted(number: u8, made: u64, asked: u64) -> Option<u64> {
+    if number != 0 {
+        return None;
+    }
+    let known = (1..=asked).contains(&made);
+    assert!(known, "{made} of {asked} ticks were made");
+    Some(made)
 }
 
 fn next(next: Next) -> &'static str {

@@ -26,7 +26,7 @@ impl<W: Write> World<'_, W> {
             floor.record.write_story(output, floor.number)?;
         }
         self.timeline.output.flush()?;
-        Ok(kept && self.unsound == 0)
+        Ok(kept && self.unsound == 0 && self.astray == 0)
     }
 
     /// Whether no half-open pair lasted, measured by the longest way that a
@@ -59,6 +59,13 @@ impl<W: Write> World<'_, W> {
                 output,
                 "Calls refused with 12, 13 or 14: {}.",
                 ticks(self.unsound)
+            )?;
+        }
+        if self.astray > 0 {
+            writeln!(
+                output,
+                "Advances that didn't make their ticks: {}.",
+                ticks(self.astray)
             )?;
         }
         Ok(kept)
