@@ -31,7 +31,7 @@ use Rattle.boxwords.specs.Laws.{clear-is, words-again}
 use Rattle.boxwords.specs.Told.{listed, toldWords}
 use Rattle.boxwords.specs.declared.LightWords.{LightWords}
 use Rattle.boxcall.specs.Calls.{Left, wordsAt, boxAt, isLent, heardOf, toldOf, handed, settled, boxCall, nextCall}
-use Rattle.boxcall.specs.Laws.{whole}
+use Rattle.boxpass.specs.Laws.{whole}
 use Rattle.facelaws.specs.Box.{EntriesFit, LightFits, Fits, Words, Stand, Judging, register, deregister, hear, tick, BoxJudged, bare, BoxRefused, BoxReads, BoxRepacked, NobodySends}
 use Rattle.facelaws.proofs.RoundTrip.{drop-map, map-all, unpacked}
 
