@@ -1,19 +1,17 @@
 -- The words of a block are judged as the box in it is.
 -- Assumes nothing.
 use Prim.Native.Nat.{ℕ, _+_, _-_, _*_, _/_, _%_, _^_, _≤_, _<_, min}
-use mathlib.Core.Path.{_≡_, refl, sym, ap, _∙_}
-use mathlib.Core.Bool.{Bool, true, false, not, cond, _&&_, _||_, and-true, and-false, and-eq-true-iff, false≢true}
+use mathlib.Core.Path.{_≡_, refl, ap, _∙_}
+use mathlib.Core.Bool.{Bool, true, false, cond, _&&_, and-true, and-false, false≢true}
 use mathlib.Core.Logic.{_⊎_, inl, inr, ⊎-elim}
-use mathlib.Core.List.{List, [], _∷_}
 use native.Mathlib.Omega.{arith}
-use borrow.Author.Tests.{lt-ltb, le-ltb, le-leb, lt-leb, leb-true, ltb-false, eq-eqb, ne-eqb, eqb-true}
+use borrow.Author.Tests.{lt-ltb, le-ltb, le-leb, lt-leb, ltb-false, eq-eqb, ne-eqb}
 use lib.Dec.{eqb, leb, ltb}
-use Rattle.laws.specs.Cases.{cut, either, decided}
-use Rattle.boxwords.specs.Box.{entryOf, stateWord, stateOf, registrationOf, lightWords, discoveryOf as discovering, lightOf as lighting}
+use Rattle.laws.specs.Cases.{cut, either}
+use Rattle.boxwords.specs.Box.{stateWord, stateOf, registrationOf, lightWords, discoveryOf as discovering, lightOf as lighting}
 use Rattle.boxwords.specs.declared.LightWords.{LightWords}
 use Rattle.clock.specs.Numbers.{furthest}
 use Rattle.clock.specs.Timers.{off, runs, quietOf}
-use Rattle.clock.specs.declared.Timer.{Timer}
 use Rattle.fields.specs.Fields.{timerOf, quantaOf}
 use Rattle.light.specs.Light.{laserOnFor}
 use Rattle.light.specs.Pass.{quietOf as lightQuiet}
@@ -71,7 +69,7 @@ rings l m k =
     (cut m l))
     (cut l 1)
 
-none : (t : Bool) → guard t 0 ≡ 0
+pub none : (t : Bool) → guard t 0 ≡ 0
 none true = refl
 none false = refl
 
@@ -279,7 +277,7 @@ serves-wide g y =
     rw (e, eq-eqb g g refl) (serves g y))
     (cut 4294967295 g)
 
-serves-sync : (g y : ℕ) → isServed g y ≡ true → y ≤ 65461
+pub serves-sync : (g y : ℕ) → isServed g y ≡ true → y ≤ 65461
 unfolding isServed
 serves-sync g y =
     either (λ (x : Bool). x ≡ true → y ≤ 65461) (ltb 65461 y) false (leb (74 + y) g && leb g 65535)
@@ -287,7 +285,7 @@ serves-sync g y =
     (λ f _. ltb-false 65461 y f)
 
 -- what a choice is where its test holds
-inside : (t : Bool) (x y : ℕ) → (t ≡ true → x ≡ y) → guard t x ≡ guard t y
+pub inside : (t : Bool) (x y : ℕ) → (t ≡ true → x ≡ y) → guard t x ≡ guard t y
 inside true x y f = f refl
 inside false x y f = refl
 

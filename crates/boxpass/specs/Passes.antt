@@ -1,23 +1,20 @@
 -- Quiet ticks made in place are those of the box in the block.
 -- Assumes nothing.
-use Prim.Native.Nat.{ℕ, _+_, _-_, _%_, _≤_, _<_, min}
-use mathlib.Core.Path.{_≡_, refl, sym, ap, _∙_}
-use mathlib.Core.Bool.{Bool, true, false, cond, _&&_, and-eq-true-iff, false≢true}
-use mathlib.Core.List.{List, [], _∷_, _++_, map}
+use Prim.Native.Nat.{ℕ, _+_, _-_, _%_, _≤_}
+use mathlib.Core.Path.{_≡_, refl, ap, _∙_}
+use mathlib.Core.Bool.{Bool, true, false, cond, _&&_, and-eq-true-iff}
+use mathlib.Core.List.{List, [], _∷_}
 use native.Mathlib.Omega.{arith}
 use borrow.Author.Tests.{ltb-false, le-ltb}
-use lib.Dec.{eqb, ltb}
+use lib.Dec.{ltb}
 use lib.ListN.{length, take, drop, getD, replicate, length-take, take-append-drop}
-use Rattle.laws.specs.Cases.{either}
-use Rattle.boxwords.specs.Box.{entryWord, entryOf, listOf, stateWord, stateOf, registrationOf, lightWords, frontWords, frontOf, isClear, hasWords, isBox, boxOf, boxIn, boxWords}
+use Rattle.boxwords.specs.Box.{listOf, lightWords, frontWords, frontOf, isClear, hasWords, isBox, boxOf, boxIn, boxWords}
 use Rattle.boxwords.specs.Laws.{clear-is, words-again}
-use Rattle.boxwords.specs.declared.LightWords.{LightWords}
 use Rattle.clock.specs.Counts.{laterOf}
 use Rattle.clock.specs.Timers.{passedOf as timerPassed}
 use Rattle.floorbox.specs.Box.{soundOf}
 use Rattle.floorbox.specs.Pass.{quietOf, passedOf}
 use Rattle.grants.specs.Listed.{packed}
-use Rattle.grants.specs.declared.GrantList.{GrantList}
 use Rattle.light.specs.Pass.{passedOf as lightPassed}
 use Rattle.light.specs.declared.Light.{Light}
 use Rattle.light.specs.declared.Light.the-variants.{Rest, Before, Random, Warming, Asking, Due, Lit, Open}

@@ -1,16 +1,16 @@
 -- The quiet ticks that the code comes to are those of the box in the block.
 -- Assumes nothing.
-use Prim.Native.Nat.{ℕ, zero, suc, _+_, _-_, _*_, _/_, _%_, _^_, _≤_, _<_, min}
+use Prim.Native.Nat.{ℕ, zero, suc, _+_, _-_, _/_, _%_, _^_, _≤_, _<_, min}
 use mathlib.Core.Path.{_≡_, refl, sym, ap, _∙_}
 use mathlib.Core.Bool.{Bool, true, false, not, cond, _&&_, _||_, or-true, or-false, and-true, and-false, and-eq-true-iff, false≢true}
 use mathlib.Core.Logic.{_⊎_, inl, inr, ⊎-elim}
 use mathlib.Core.List.{List, [], _∷_, map}
 use native.Mathlib.Omega.{arith}
-use borrow.Author.Tests.{lt-ltb, le-ltb, le-leb, lt-leb, leb-true, eq-eqb, ne-eqb, eqb-true, not-true}
-use lib.Dec.{eqb, leb, ltb}
+use borrow.Author.Tests.{lt-ltb, le-ltb, le-leb, lt-leb, eq-eqb, ne-eqb}
+use lib.Dec.{eqb, leb}
 use lib.ListN.{length, take, drop}
 use lib.Seq.{take-take, drop-drop, take-add}
-use Rattle.laws.specs.Cases.{cut, either}
+use Rattle.laws.specs.Cases.{cut}
 use Rattle.boxwords.specs.Box.{entryOf, listOf, stateWord, stateOf, registrationOf, lightWords, discoveryOf as discovering, lightOf as lighting, frontWords, frontOf, isClear, hasWords, isBox, boxOf, boxIn}
 use Rattle.clock.specs.Timers.{runs, quietOf as timerQuiet}
 use Rattle.fields.specs.Fields.{timerOf, quantaOf}
@@ -24,7 +24,7 @@ use Rattle.light.specs.Light.{atRest}
 use Rattle.light.specs.Pass.{quietOf as lightQuiet}
 use Rattle.light.specs.Sound.{served, soundOf as lightSound}
 use Rattle.light.specs.declared.Light.{Light}
-use Rattle.light.specs.declared.Light.the-variants.{Rest, Before, Random, Warming, Asking, Due, Lit, Open}
+use Rattle.light.specs.declared.Light.the-variants.{Rest}
 use Rattle.processes.specs.Pass.{activates, quietOf as processesQuiet}
 use Rattle.processes.specs.Sound.{restsIn, soundOf as processesSound}
 use Rattle.range.specs.Fits.{isIndividual}
@@ -35,9 +35,9 @@ use Rattle.registration.specs.declared.Registration.{Registration}
 use Rattle.registration.specs.declared.State.{State}
 use Rattle.registration.specs.declared.State.the-variants.{Wait, Registering, RegisterReq, Registered}
 use Rattle.boxpass.specs.Block.{boxAt}
-use Rattle.boxpass.specs.Judged.{guard, wide, fit, timesWords, times-is, apart, lightSame, told, light-is}
+use Rattle.boxpass.specs.Judged.{guard, none, inside, wide, fit, timesWords, times-is, apart, lightSame, told, light-is}
 use Rattle.boxpass.specs.Laws.{whole}
-use Rattle.boxpass.specs.Judging.{timesOf, lightOf, isOwn, areShort, isAmong, areHeld, isListed, shinesOf, judgedOf}
+use Rattle.boxpass.specs.Judging.{timesOf, isOwn, areShort, isAmong, areHeld, isListed, shinesOf, judgedOf}
 
 -- a state's word that is REGISTERED
 registered-is : (s : ℕ) → isRegistered (stateOf s) ≡ eqb s 3
@@ -272,11 +272,6 @@ settled true false sh ap cl wt nz ri h = refl
 settled true true false ap cl wt nz ri h = simp and-false refl
 settled true true true ap cl wt nz ri h = rw (h refl refl) (turned cl ap wt nz)
 
--- so many are the same where the test holds
-inside : (t : Bool) (m n : ℕ) → (t ≡ true → m ≡ n) → guard t m ≡ guard t n
-inside true m n f = f refl
-inside false m n f = refl
-
 -- the code's ways
 shining : (o tk z ls lk : Bool) (t rq lq : ℕ) → min t 65536 ≡ guard tk rq
     → min (cond o (min t (cond z 0 (cond ls (guard lk lq) 0))) 0) 65536 ≡ guard ((o && tk) && ((not z && ls) && lk)) (min rq lq)
@@ -421,10 +416,6 @@ rested false false true true = refl
 rested false false true false = refl
 rested false false false true = refl
 rested false false false false = refl
-
-none : (t : Bool) → guard t 0 ≡ 0
-none true = refl
-none false = refl
 
 module _ (rest : List ℕ) (a0 a1 a2 a3 a4 a5 a6 a7 a9 a10 a11 : ℕ) where
   abbrev own : Bool

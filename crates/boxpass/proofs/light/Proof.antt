@@ -2,9 +2,10 @@
 -- Assumes nothing.
 use borrow.Author.Tests.{eq-eqb, ne-eqb}
 use Rattle.boxpass.specs.Judging.{lightOf}
+use mathlib.Core.Path.{sym, _∙_}
 use native.Mathlib.Omega.{arith}
 use borrow.Author.Needs.{needs}
-use Rattle.boxpass.proofs.Served.{served-sync}
+use Rattle.boxpass.specs.Judged.{serves-sync}
 use Rattle.boxpass.proofs.light.Statement.{statement}
 use Rattle.boxpass.proofs.light.Tie as tie
 
@@ -23,7 +24,7 @@ is-served-requires : tie.Need-is-served-requires
 is-served-requires c κs = search needs
 
 add-rings-in : tie.Need-add-rings-in
-add-rings-in c = omega (arith, served-sync _ _ _ (c .before .is-served .ensures) (c .if4 .taken))
+add-rings-in c = omega (arith, serves-sync _ _ (sym (c .before .is-served .ensures) ∙ c .if4 .taken))
 
 rings-in-requires-2 : tie.Need-rings-in-requires-2
 rings-in-requires-2 c κs = search needs
