@@ -60,7 +60,7 @@ areHeld b number state phase grant =
     let held = drop 13 (take (13 + number) b) in
     cond (ltb 16 number) false
     (cond (eqb state 3)
-    (cond (isClear (drop (13 + number) (take 29 b)) && areShort held) (cond (eqb phase 5) (isAmong grant held) true) false)
+    (cond (isClear (drop (13 + number) (take 29 b)) && areShort (drop 13 (take 29 b))) (cond (eqb phase 5) (isAmong grant held) true) false)
     false)
 
 unfoldable pub isListed : List ℕ → ℕ → ℕ → ℕ → ℕ → Bool

@@ -6,7 +6,7 @@ use mathlib.Core.Bool.{Bool, true, false, not, cond, _&&_, _||_, or-true, or-fal
 use mathlib.Core.Logic.{_⊎_, inl, inr, ⊎-elim}
 use mathlib.Core.List.{List, [], _∷_, map}
 use native.Mathlib.Omega.{arith}
-use borrow.Author.Tests.{lt-ltb, le-ltb, le-leb, lt-leb, eq-eqb, ne-eqb}
+use borrow.Author.Tests.{lt-ltb, le-ltb, le-leb, lt-leb, eq-eqb, ne-eqb, eqb-true}
 use lib.Dec.{eqb, leb}
 use lib.ListN.{length, take, drop}
 use lib.Seq.{take-take, drop-drop, take-add}
@@ -117,6 +117,27 @@ among g zero l = refl
 among g (suc n) [] = refl
 among g (suc n) (x ∷ l) = rw (word-same g x, among g n l)
 
+-- what is behind the grants is short, since there is nothing
+clear-short : (l : List ℕ) → isClear l ≡ true → areShort l ≡ true
+clear-short [] h = refl
+clear-short (x ∷ l) h =
+    let p = and-eq-true-iff (eqb x 0) (isClear l) .0 h in
+    rw (eqb-true x 0 (p .0), clear-short l (p .1))
+
+all-short : (n : ℕ) (l : List ℕ) → (isClear (drop n l) && areShort l) ≡ (isClear (drop n l) && areShort (take n l))
+all-short zero l = by-clear (isClear l) refl
+  where
+    by-clear : (t : Bool) → isClear l ≡ t → (t && areShort l) ≡ (t && true)
+    by-clear true e = clear-short l e
+    by-clear false e = refl
+all-short (suc n) [] = refl
+all-short (suc n) (x ∷ l) = by-first (leb (x % 4294967296) 65535) (all-short n l)
+  where
+    by-first : (t : Bool) → (isClear (drop n l) && areShort l) ≡ (isClear (drop n l) && areShort (take n l))
+        → (isClear (drop n l) && (t && areShort l)) ≡ (isClear (drop n l) && (t && areShort (take n l)))
+    by-first true e = e
+    by-first false e = refl
+
 -- a grant that is waited for is one of the list
 abbrev waited : ℕ → ℕ → GrantList → Bool
 waited p g s = cond (eqb p 5) (holds (entryOf g) (heldIn s)) true
@@ -151,7 +172,7 @@ module _ (rest : List ℕ) (a0 a1 a2 a3 a4 a5 a6 a7 a8 a9 a10 a11 a12 : ℕ) whe
       ⊎-elim (λ (k : 16 < a12). rw (ne-eqb a12 0 (omega arith), lt-ltb 16 a12 k, lt-leb a12 16 k) (simp and-false refl))
       (λ (k : a12 ≤ 16).
       let n : min a12 16 ≡ a12 = omega arith in
-      rw (ne-eqb a12 0 (omega arith), le-ltb 16 a12 k, le-leb a12 16 k, n, held-is k, behind-is, shorts a12 places, among a10 a12 places, registered-is a2, or-false (eqb a2 3))
+      rw (ne-eqb a12 0 (omega arith), le-ltb 16 a12 k, le-leb a12 16 k, n, held-is k, behind-is, all-short a12 places, shorts a12 places, among a10 a12 places, registered-is a2, or-false (eqb a2 3))
       (found (eqb a2 3) (isClear (drop a12 places)) (areShort (take a12 places)) (cond (eqb a8 5) (isAmong a10 (take a12 places)) true)))
       (cut 16 a12))
       (cut a12 1)

@@ -193,7 +193,8 @@ fn is_among(b: &[u64], end: usize, grant: u64) -> bool
     met
 }
 
-// Grants are held only when REGISTERED, and one that is waited for is among them.
+// Grants are held only when REGISTERED, and one that is waited for is among them. Behind them is nothing, which is short too: to look at all
+// places is faster than to look at some.
 fn are_held(b: &[u64], number: u64, state: u64, phase: u64, grant: u64) -> bool
     requires { ⌜ 29 ≤ length (now b) ⌝ }
     ensures { λ r. ⌜ r ≡ areHeld (now (b .entry)) number state phase grant ⌝ }
@@ -205,7 +206,7 @@ fn are_held(b: &[u64], number: u64, state: u64, phase: u64, grant: u64) -> bool
         return false;
     }
     let end = GRANTS + number as usize;
-    if are_clear(b, end) & are_short(b, end) {
+    if are_clear(b, end) & are_short(b, BOX) {
         if phase == 5 {
             return is_among(b, end, grant);
         }
