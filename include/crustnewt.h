@@ -25,7 +25,14 @@
  * bits, a count, a time or a length more than 32) are answered CRUSTNEWT_UNSOUND, and so are those of a state that isn't sound. A state
  * that an earlier library left is such a block, and is taken.
  *
- * A QUANTUM is 16 bit times, 16 ns at 1 Gbit/s. Call crustnewt_head_tick and crustnewt_box_tick once in each.
+ * TIME. A quantum is 16 bit times, 16 ns at 1 Gbit/s. Head and box have no clock: tell them how many quanta have passed, whenever
+ * you come to it, by crustnewt_head_advance and crustnewt_box_advance. An advance is so many single ticks in one call, up to
+ * CRUSTNEWT_MOST_TICKS, but stops after the first that hands out a frame or a notice: see to it, and go on with the rest. Where nothing
+ * happens, a timer of 1 ms (62,500 quanta) costs a call each. Every other call is made at the count that the block stands at: advance to
+ * the moment when a frame came or a client asked, then make the call. To wake up in time, ask crustnewt_head_ticks_until and
+ * crustnewt_box_ticks_until: during so many ticks nothing is handed out, nothing is refused and a box's laser stays as it is; whatever
+ * comes next comes with the tick after them, or later. A frame bears the count of its own tick, and a head's sets the counts of its
+ * boxes, so a head wakes up for its frames. A worked example stands at the end.
  */
 #ifndef CRUSTNEWT_H
 #define CRUSTNEWT_H
@@ -48,6 +55,10 @@ extern "C" {
 #define CRUSTNEWT_LINK_WORDS 5     /* for each link of the table */
 #define CRUSTNEWT_MOST_LINKS 64
 #define CRUSTNEWT_HEAD_REPLY_WORDS 5
+#define CRUSTNEWT_MADE_WORDS 1 /* for the number of ticks that an advance made */
+
+/* Most ticks of one advance. */
+#define CRUSTNEWT_MOST_TICKS 65536
 
 /* The service card. Reading tests 1, 2, 3, 4, writing only 4. A call of the box or the head tests 13, 12, 5, 6, 7, 8, 4, 9, 10, 11
  * and last 14, each where it applies; one that hears a frame reads it first. */
@@ -61,7 +72,7 @@ enum crustnewt_number {
     CRUSTNEWT_LINK = 6,       /* link number not allowed here, above the table, or idle */
     CRUSTNEWT_STATE = 7,      /* not in this state */
     CRUSTNEWT_PARTY = 8,      /* not this party's address */
-    CRUSTNEWT_GRANT = 9,      /* start, length or number of grants outside its range */
+    CRUSTNEWT_GRANT = 9,      /* start, length or number of grants outside its range, or a number of ticks outside 1 to 65,536 */
     CRUSTNEWT_HELD = 10,      /* the address already holds a link */
     CRUSTNEWT_FULL = 11,      /* every link is held */
     CRUSTNEWT_OUTPUT = 12,    /* output shorter than 60 octets a link */
@@ -149,6 +160,18 @@ uint8_t crustnewt_box_hear(const uint8_t *octets, size_t octets_length, uint32_t
 /* One quantum has passed. */
 uint8_t crustnewt_box_tick(uint64_t *block, size_t block_words, uint8_t *frames, size_t frames_octets, uint64_t *reply,
                            size_t reply_words);
+
+/* So many quanta have passed, 1 to CRUSTNEWT_MOST_TICKS: single ticks are made until that many are, or the last one made handed out a
+ * frame or a notice, or the next would be refused. Frames and reply are those of the last tick made, and `made` says how many were
+ * made: at least 1 when done. CRUSTNEWT_GRANT for another number; CRUSTNEWT_WINDOW only if the very first tick would be refused. A
+ * refusal has made none, and says 0; after CRUSTNEWT_SHORT `made` stays as it was. */
+uint8_t crustnewt_box_advance(uint64_t ticks, uint64_t *block, size_t block_words, uint8_t *frames, size_t frames_octets,
+                              uint64_t *reply, size_t reply_words, uint64_t *made, size_t made_words);
+
+/* How many ticks from now are sure to be done and to hand out nothing, 0 to CRUSTNEWT_MOST_TICKS: those before the next end of a timer,
+ * which may pass in silence too, and none where the next tick chooses a grant. Nothing is refused: the answer for a state that isn't
+ * sound, for words that are no state's and for a short block is 0. */
+uint64_t crustnewt_box_ticks_until(const uint64_t *block, size_t block_words);
 
 /* Which of a waiting control frame and a waiting data frame goes next: 0 neither, 1 the control frame, 2 the data frame. A length
  * of 0 says that none waits; of the octets only the lengths are looked at. Soundness isn't judged: nothing is refused but a short
@@ -248,6 +271,16 @@ uint8_t crustnewt_head_hear(size_t link, const uint8_t *octets, size_t octets_le
 uint8_t crustnewt_head_tick(uint64_t *head, size_t head_words, uint64_t *links, size_t links_words, uint8_t *output,
                             size_t output_octets, uint64_t *reply, size_t reply_words);
 
+/* So many quanta have passed, as for a box: single ticks are made until that many are, or the last one made handed out a frame. A
+ * window that opens or closes hands out nothing. */
+uint8_t crustnewt_head_advance(uint64_t ticks, uint64_t *head, size_t head_words, uint64_t *links, size_t links_words,
+                               uint8_t *output, size_t output_octets, uint64_t *reply, size_t reply_words, uint64_t *made,
+                               size_t made_words);
+
+/* How many ticks from now hand out nothing, 0 to CRUSTNEWT_MOST_TICKS; where they are fewer than that, the tick after them hands out a
+ * frame. Nothing is refused: the answer for what isn't sound and for a short block is 0. */
+uint64_t crustnewt_head_ticks_until(const uint64_t *head, size_t head_words, const uint64_t *links, size_t links_words);
+
 /* Frames by themselves. */
 
 /* The words of a message. From CRUSTNEWT_MESSAGE_BODY on:
@@ -284,13 +317,18 @@ uint8_t crustnewt_read(const uint8_t *octets, size_t octets_length, uint64_t *me
  * no field's or a field is outside its range. */
 uint8_t crustnewt_write(const uint64_t *message, size_t message_words, uint8_t *octets, size_t octets_length);
 
-/* A worked example, whole: a box that registers and then lives on its quanta. examples/pair.c has both ends.
+/* A worked example, whole: a box that registers and lives on a timer of 1 ms. examples/coarse.c has it on a board; examples/pair.c has both
+ * ends, quantum by quantum.
  *
  *   #include "crustnewt.h"
  *
- *   // The board's: the next quantum's frame if one came (0 octets if not), the queue of frames to send, the laser.
- *   size_t wait_for_quantum(uint8_t *octets);
- *   void queue_control_frame(const uint8_t *octets);
+ *   // The board's: it sleeps so many quanta, or less if a frame comes, one has gone or its millisecond is over, and says how many have
+ *   // passed. It takes the frame that came and knows the first that waits to be sent, of 0 octets where there is none or one is going.
+ *   uint64_t sleep_for(uint64_t quanta);
+ *   size_t take_frame(uint8_t *octets);
+ *   void queue_frame(const uint8_t *octets);
+ *   const uint8_t *first_in_queue(size_t *octets);
+ *   void send_first(void);
  *   void laser(int on);
  *   uint32_t random_number(void);
  *
@@ -298,26 +336,56 @@ uint8_t crustnewt_write(const uint64_t *message, size_t message_words, uint8_t *
  *   static uint8_t frames[CRUSTNEWT_BOX_FRAMES_OCTETS];
  *   #define LENT box, CRUSTNEWT_BOX_WORDS, frames, sizeof frames, reply, CRUSTNEWT_BOX_REPLY_WORDS
  *
- *   static void send(void)
+ *   static void told(void)
  *   {
+ *       uint64_t light = box[CRUSTNEWT_BOX_LIGHT];
+ *
  *       for (uint64_t i = 0; i < reply[CRUSTNEWT_BOX_REPLY_FRAMES]; i++)
- *           queue_control_frame(frames + i * CRUSTNEWT_FRAME_OCTETS);
+ *           queue_frame(frames + i * CRUSTNEWT_FRAME_OCTETS);
+ *       laser(light == CRUSTNEWT_BOX_LIGHT_WARMING || light == CRUSTNEWT_BOX_LIGHT_ASKING || light == CRUSTNEWT_BOX_LIGHT_LIT ||
+ *             light == CRUSTNEWT_BOX_LIGHT_OPEN);
+ *   }
+ *
+ *   // All the quanta that have passed are made, and what is handed out on the way is looked at when it is.
+ *   static uint8_t pass(uint64_t quanta)
+ *   {
+ *       while (quanta > 0) {
+ *           uint64_t ticks = quanta < CRUSTNEWT_MOST_TICKS ? quanta : CRUSTNEWT_MOST_TICKS, made;
+ *           uint8_t number = crustnewt_box_advance(ticks, LENT, &made, 1);
+ *
+ *           if (number != CRUSTNEWT_DONE)
+ *               return number;
+ *           told();
+ *           quanta -= made;
+ *       }
+ *       return CRUSTNEWT_DONE;
+ *   }
+ *
+ *   // While the transmitter is at rest the millisecond will do: what is handed out waits for a window anyway.
+ *   static uint64_t leisure(void)
+ *   {
+ *       if (box[CRUSTNEWT_BOX_LIGHT] == CRUSTNEWT_BOX_LIGHT_REST)
+ *           return CRUSTNEWT_MOST_TICKS;
+ *       return crustnewt_box_ticks_until(box, CRUSTNEWT_BOX_WORDS) + 1;
  *   }
  *
  *   uint8_t run(uint64_t address)
  *   {
  *       uint8_t octets[2048], number = crustnewt_box_fresh(address, LENT);
+ *
  *       if (number == CRUSTNEWT_DONE)
  *           number = crustnewt_box_register(LENT);
  *       while (number == CRUSTNEWT_DONE) {
- *           size_t heard = wait_for_quantum(octets);
+ *           const uint8_t *control;
+ *           size_t heard, waiting;
+ *
+ *           number = pass(sleep_for(leisure()));
+ *           heard = take_frame(octets);
  *           if (heard > 0 && crustnewt_box_hear(octets, heard, random_number(), LENT) == CRUSTNEWT_DONE)
- *               send();
- *           number = crustnewt_box_tick(LENT);
- *           if (number == CRUSTNEWT_DONE)
- *               send();
- *           laser(box[CRUSTNEWT_BOX_LIGHT] == CRUSTNEWT_BOX_LIGHT_WARMING || box[CRUSTNEWT_BOX_LIGHT] == CRUSTNEWT_BOX_LIGHT_ASKING ||
- *                 box[CRUSTNEWT_BOX_LIGHT] == CRUSTNEWT_BOX_LIGHT_LIT || box[CRUSTNEWT_BOX_LIGHT] == CRUSTNEWT_BOX_LIGHT_OPEN);
+ *               told();
+ *           control = first_in_queue(&waiting);
+ *           if (crustnewt_box_next_to_send(box, CRUSTNEWT_BOX_WORDS, control, waiting, control, 0) == 1)
+ *               send_first();
  *       }
  *       return number;
  *   }

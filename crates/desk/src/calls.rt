@@ -29,12 +29,13 @@ fn hand(desk: Desk, name: &[u8], of: [u64; 15]) -> Desk {
 }
 
 fn own(desk: Desk, name: &[u8], of: [u64; 15]) -> Desk {
-    match words::place(name, b"fresh tick output octets timers") {
+    match words::place(name, b"fresh tick advance output octets timers") {
         0 => run::fresh(desk, Address(of[0])),
         1 => run::ticks(desk, of[0]),
-        2 => run::output(desk, of[0]),
-        3 => run::octets(desk),
-        4 => run::timers(desk),
+        2 => run::advance(desk, of[0]),
+        3 => run::output(desk, of[0]),
+        4 => run::octets(desk),
+        5 => run::timers(desk),
         _ => hand(desk, name, of),
     }
 }

@@ -127,6 +127,17 @@ pub fn ticks(desk: Desk, number: u64) -> Desk {
     d
 }
 
+pub fn advance(desk: Desk, number: u64) -> Desk {
+    let before = desk.links;
+    let served = serve(desk, Request::Advance(number));
+    let answer = served.answer;
+    tell_served(before, served);
+    out::text(b"  made");
+    out::number(answer.made);
+    out::text(b"\n");
+    after(desk, served)
+}
+
 // A desk as it was, and as it is handed in again.
 pub fn handed(desk: Desk, next: Desk) -> Desk {
     let head = next.head;

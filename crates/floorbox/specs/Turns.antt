@@ -62,6 +62,10 @@ module _ (n m k q : ℕ) (r p x : Answer) (s : isSilent r ≡ true) (t : m < n) 
       turn-refused again isDone isSilent out leapOf quietAfter box-jumps n m k r s sure within x next-is d z
       ∙ ap (λ (y : Answer). out y (m + k)) (sym leapt)
 
+leaps : (k : ℕ) (b : FloorBox) → 1 ≤ k → leapOf k (bare b Done) ≡ bare (passedOf b k) Done
+unfolding leapOf
+leaps k b h = rw (ne-eqb k 0 (omega arith))
+
 -- an advance that only quiet ticks make passes them all
 pub advance-quiet : (b : FloorBox) (n : ℕ) → inReach n ≡ true → n ≤ quietOf b → advanceOf b n ≡ out (bare (passedOf b n) Done) n
 unfolding advanceOf isSilent
@@ -71,8 +75,4 @@ advance-quiet b n r q =
     let y : 0 + n ≡ n = omega arith in
     let j = jump again isDone isSilent out leapOf quietAfter box-jumps n 0 0 (bare b Done) refl q in
     rw (quiet-sound b (omega arith), r)
-    (rw (z, y) at (j .0) ∙ ticks-end again isDone isSilent out 0 n (leapOf n (bare b Done)) refl ∙ ap (λ (x : Answer). out x n) (leaps n (p .0)))
-  where
-    leaps : (k : ℕ) → 1 ≤ k → leapOf k (bare b Done) ≡ bare (passedOf b k) Done
-    unfolding leapOf
-    leaps k h = rw (ne-eqb k 0 (omega arith))
+    (rw (z, y) at (j .0) ∙ ticks-end again isDone isSilent out 0 n (leapOf n (bare b Done)) refl ∙ ap (λ (x : Answer). out x n) (leaps n b (p .0)))

@@ -11,14 +11,15 @@ use borrow.Author.Tests.{lt-ltb, le-leb, leb-true, ne-eqb}
 use lib.Dec.{eqb, ltb, leb}
 use lib.ListN.{length}
 use Rattle.laws.specs.Cases.{either, cut}
-use Rattle.laws.specs.Jump.{ticks, Jumps, ticks-told, ticks-end, turn-next}
+use Rattle.laws.specs.Jump.{ticks, Jumps, ticks-told, ticks-end, leap-next, turn-next}
 use Rattle.clock.specs.Counts.{nextOf}
-use Rattle.clock.specs.Laws.{passed-left, quiet-off, quiet-on}
+use Rattle.clock.specs.Laws.{passed-left, quiet-off, quiet-on, reach-parts}
 use Rattle.clock.specs.Numbers.{furthestAdvance, inReach}
 use Rattle.clock.specs.Timers.{passedOf as timerPassed, quietOf as timerQuiet}
 use Rattle.clock.specs.declared.Timer.{Timer}
-use Rattle.frame.specs.Card.{numberOf}
-use Rattle.frame.specs.declared.Reply.the-variants.{Done}
+use Rattle.frame.specs.Card.{_unless_, given}
+use Rattle.frame.specs.declared.Reply.{Reply}
+use Rattle.frame.specs.declared.Reply.the-variants as number
 use Rattle.head.specs.Head.{tickOf as headTick, soundOf as headSound, afterOf}
 use Rattle.head.specs.Laws.{head-tick, head-join}
 use Rattle.head.specs.declared.Head.{Head}
@@ -36,18 +37,19 @@ use Rattle.table.specs.Events.{portOf, reactOf, reacted, drivenOf}
 use Rattle.table.specs.Output.{Output, output, pasted, noteOf, noteLink, messageOf}
 use Rattle.table.specs.declared.Event.{Event}
 use Rattle.table.specs.declared.Sender.{Sender}
-use Rattle.plans.specs.Plan.{quiet, accepted}
-use Rattle.plans.specs.declared.Kind.{Kind}
-use Rattle.plans.specs.declared.Kind.the-variants as kind
+use Rattle.plans.specs.Plan.{refused, accepted}
+use Rattle.plans.specs.declared.Plan.{Plan}
 use Rattle.judging.specs.Judge.{lookOf, leapt, hasRoom}
 use Rattle.judging.specs.declared.Request.{Request}
 use Rattle.writer.specs.Write.{writeOf}
 use Rattle.serving.specs.Serve.{Served, served, sentOf, doneOf, planOf, serveOf}
-use Rattle.headlaws.specs.Calls.{plan-is}
+use Rattle.headlaws.specs.Calls.{known, plan-is}
 use Rattle.headlaws.specs.Events.{table-parts}
 use Rattle.headlaws.specs.Passing.{passedAll, passed-length, all-joins, all-none, head-none, leap-driven, leap-sent}
+use Rattle.headlaws.specs.Refusals.{telling, done-refused}
 use Rattle.headlaws.specs.Sound.{Sound, facts-quiet, call-keeps}
 use Rattle.headlaws.specs.Table.{sound-first}
+use Rattle.headlaws.specs.Advanced.{stillAt, again, isDone, isSilent, Made, out, withMade, advancedOf}
 
 -- ---- the table
 all-less : (xs : List Link) → 1 ≤ quietAll xs → quietAll xs ≤ suc (quietAll (passedAll xs 1))
@@ -161,36 +163,6 @@ few-some n m f h =
     omega arith
 
 -- ---- a call
--- so many ticks on, with nothing handed out
-abbrev pub stillAt : Head → List Link → List ℕ → Served
-stillAt h xs os = served (record { reply = Done; next = h; frames = 0; notice = quiet; made = 0 }) xs os
-
--- the tick after the one that was answered so
-abbrev pub again : Served → Served
-again s = serveOf (s .answer .next) (s .table) Request.Tick (s .octets)
-
-unfoldable pub isDone : Served → Bool
-isDone s = eqb (numberOf (s .answer .reply)) 0
-
-abbrev pub isNone : Kind → Bool
-isNone kind.Nothing = true
-isNone kind.Request = false
-isNone kind.Registered = false
-isNone kind.Dropped = false
-isNone kind.Report = false
-
--- neither a frame nor a notice
-unfoldable pub isSilent : Served → Bool
-isSilent s = eqb (s .answer .frames) 0 && isNone (s .answer .notice .kind)
-
--- the answer of the last tick made, and how many were made
-pub record Made : Type 0 where
-  pub last : Served
-  pub made : ℕ
-
-abbrev pub out : Served → ℕ → Made
-out s m = record { last = s; made = m }
-
 unfoldable pub leapOf : ℕ → Served → Served
 leapOf k s = cond (eqb k 0) s (stillAt (afterOf (s .answer .next) k) (passedAll (s .table) k) (s .octets))
 
@@ -323,12 +295,6 @@ reach (suc k) s r h =
           omega arith;
     })
 
--- an answer, with the number made
-abbrev pub withMade : ℕ → Served → Served
-withMade m s =
-    served (record { reply = s .answer .reply; next = s .answer .next; frames = s .answer .frames; notice = s .answer .notice; made = m }) (s .table)
-    (s .octets)
-
 -- the theorem: of n single ticks the head makes those before the first link rings, and one more, unless n are made before
 module _ (h : Head) (xs : List Link) (os : List ℕ) (r : Ready (stillAt h xs os)) (n : ℕ) (lo : 1 ≤ n) (hi : n ≤ furthestAdvance) where
   abbrev pub passing : ℕ
@@ -392,16 +358,48 @@ module _ (h : Head) (xs : List Link) (os : List ℕ) (r : Ready (stillAt h xs os
       )
       (leapt-is passing)
 
--- Document 01, "Advance", at the head: 13, 12 and 9 in that order; then single ticks, and the reply is that of the last one made
-unfoldable pub advancedOf : Head → List Link → ℕ → List ℕ → Served
-advancedOf h xs n os =
-    let m = ticks again isDone isSilent out n (stillAt h xs os) 0 in
-    given
-    (Unsound unless (headSound h && soundTable xs)
-    ∷ Output unless hasRoom (length xs) (length os)
-    ∷ Grant unless inReach n
-    ∷ [])
-    (λ r. doneOf (refused h r) xs os) (withMade (m .made) (m .last))
+-- the call is answered as the page has it, whatever is handed in
+module _ (h : Head) (xs : List Link) (n : ℕ) (os : List ℕ) where
+  abbrev refusal : Reply → Served
+  refusal x = served (telling x h) xs os
+
+  abbrev tested : Bool → Bool → Bool → Served → Served
+  tested s k i r = given (number.Unsound unless s ∷ number.Output unless k ∷ number.Grant unless i ∷ []) refusal r
+
+  abbrev leaping : Plan
+  leaping = leapt h (min (known xs (Request.Advance n) .quiet) (n - 1))
+
+  abbrev last : Served
+  last = let m = ticks again isDone isSilent out n (stillAt h xs os) 0 in withMade (m .made) (m .last)
+
+  pick : (s k i : Bool) → doneOf (given (number.Unsound unless s ∷ number.Output unless k ∷ number.Grant unless i ∷ []) (refused h) leaping) xs os
+      ≡ tested s k i (doneOf leaping xs os)
+  pick false k i = done-refused h number.Unsound xs os
+  pick true false i = done-refused h number.Output xs os
+  pick true true false = done-refused h number.Grant xs os
+  pick true true true = refl
+
+  as-planned : serveOf h xs (Request.Advance n) os
+      ≡ tested (headSound h && soundTable xs) (hasRoom (length xs) (length os)) (inReach n) (doneOf leaping xs os)
+  unfolding serveOf
+  as-planned =
+      rw (plan-is h xs (Request.Advance n) (length os)) (pick (headSound h && soundTable xs) (hasRoom (length xs) (length os)) (inReach n))
+
+  as-made : (s : Bool) → (headSound h && soundTable xs) ≡ s → (k : Bool) → hasRoom (length xs) (length os) ≡ k → (i : Bool) → inReach n ≡ i
+      → tested s k i (doneOf leaping xs os) ≡ tested s k i last
+  as-made false e k f i g = refl
+  as-made true e false f i g = refl
+  as-made true e true f false g = refl
+  as-made true e true f true g =
+      let p = reach-parts n g in
+      let r = ready-of (stillAt h xs os) (rw (e, f)) in
+      sym (rw (e, f, g) at as-planned)
+      ∙ serve-advance h xs os r n (p .0) (p .1)
+      ∙ ap (λ (m : Made). withMade (m .made) (m .last)) (sym (advance-is-ticks h xs os r n (p .0) (p .1)))
+
+  pub advance-page : serveOf h xs (Request.Advance n) os ≡ advancedOf h xs n os
+  unfolding advancedOf
+  advance-page = as-planned ∙ as-made (headSound h && soundTable xs) refl (hasRoom (length xs) (length os)) refl (inReach n) refl
 
 -- quiet ticks, one and many
 module _ (h : Head) (xs : List Link) (os : List ℕ) (r : Ready (stillAt h xs os)) where

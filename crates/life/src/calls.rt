@@ -9,6 +9,7 @@ pub enum Call {
     Register,
     Deregister,
     Tick(u64),
+    Advance(u64),
     Hand(Part),
     Look(Look),
 }
@@ -55,11 +56,12 @@ fn hand_of(name: &[u8], a: u64, b: u64) -> Call {
 }
 
 fn ask_of(name: &[u8], a: u64, b: u64) -> Call {
-    match words::place(name, b"fresh register deregister tick") {
+    match words::place(name, b"fresh register deregister tick advance") {
         0 => Call::Fresh(Address(a)),
         1 => Call::Register,
         2 => Call::Deregister,
         3 => Call::Tick(a),
+        4 => Call::Advance(a),
         _ => hand_of(name, a, b),
     }
 }

@@ -117,6 +117,16 @@ fn ticks(last: Answer, number: u64) -> Answer {
     a
 }
 
+fn advance(b: FloorBox, number: u64) -> Answer {
+    let advanced = b.advance(number);
+    let last = advanced.answer;
+    let a = told(last);
+    out::text(b"  made");
+    out::number(advanced.made);
+    out::text(b"\n");
+    a
+}
+
 fn tell_sent(frame: &[u8]) {
     if frame.len() == 0 {
         out::text(b" nothing");
@@ -169,6 +179,7 @@ fn call(last: Answer, call: Call) -> Answer {
         Call::Register => told(b.register()),
         Call::Deregister => told(b.deregister()),
         Call::Tick(number) => ticks(last, number),
+        Call::Advance(number) => advance(b, number),
         Call::Hand(part) => handed(hand::with(b, part)),
         Call::Look(at) => look(last, at),
     }

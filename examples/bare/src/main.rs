@@ -47,12 +47,17 @@ fn run() -> Result<BoxState, Refusal> {
         window: 400,
     })?;
     floor_box.hear(&sent.frames()[0], 250)?;
-    for _ in 0..300 {
-        head.tick()?;
-        let asked = floor_box.tick()?.frames().first().copied();
+    let mut left = 300;
+    while left > 0 {
+        let advanced = floor_box.advance(left)?;
+        let made = advanced.made;
+        let asked = advanced.reply.frames().first().copied();
+        // None of its timers ends so soon.
+        head.advance(made)?;
         if let Some(request) = asked {
             admit(&mut head, &mut floor_box, &request)?;
         }
+        left -= made;
     }
     Ok(floor_box.state())
 }

@@ -2,17 +2,22 @@
 
 use crate::frames::written;
 use crate::heads::HEAD;
+use crate::kept::Kept;
 use crate::measure::Case;
-use crustnewt::sys::{self, BoxMemory};
+use crustnewt::sys::{self, BoxMemory, MOST_TICKS};
 use crustnewt::{Body, BoxParts, BoxState, FloorBox, Frame, Grant, Granted, Light, Message, UpTo};
-use plain::{Address, Count};
+use plain::{Address, Count, GrantList};
 use std::hint::black_box;
 
 /// The box of the measurements, and the first of many.
 pub const BOX: u64 = 0x0200_0000_0031;
 
-/// Ticks after which a box is set back, so that what is measured lasts.
+/// Ticks after which a box is set back. No window is longer than 65,535.
 const TICKS: u32 = 50_000;
+/// Ticks of a window that is open.
+const WINDOW: u32 = 60_000;
+/// Where the first of the grants that are held starts: later than a REPORT.
+const START: u32 = 10_000_000;
 
 /// The same box for both.
 #[derive(Clone)]
@@ -25,32 +30,61 @@ pub struct Pair {
 
 /// Ticks of boxes, and a frame that is heard.
 pub fn cases() -> Vec<Case> {
-    let quiet = pair(BOX, BoxState::Wait, 0);
-    let waiting = pair(BOX, BoxState::Requesting, 0);
-    let lit = pair(BOX, BoxState::Registered, 60_000);
-    vec![
-        ticking("box tick, quiet", quiet.clone()),
-        ticking("box tick, waiting for REGISTER", waiting),
-        ticking("box tick, registered", registered(BOX)),
-        ticking("box tick, lit", lit),
-        c_ticking(quiet),
-        hearing(registered(BOX)),
+    let mut cases: Vec<Case> = states()
+        .map(|(name, parts)| ticking(&format!("box tick, {name}"), pair(&parts)))
+        .into();
+    cases.push(c_ticking(pair(&parts(BOX, BoxState::Wait))));
+    cases.push(hearing(registered(BOX)));
+    cases
+}
+
+/// Advances of the same boxes, as far as nothing ends, beside a tick of each.
+pub fn advances() -> Vec<Case> {
+    states()
+        .map(|(name, parts)| advancing(name, &pair(&parts).proved))
+        .into()
+}
+
+/// What a box has to do while it is measured.
+fn states() -> [(&'static str, BoxParts); 5] {
+    let registered = parts(BOX, BoxState::Registered);
+    let lit = BoxParts {
+        light: Light::Open { left: WINDOW },
+        ..registered.clone()
+    };
+    let holding = holding(registered.clone());
+    [
+        ("quiet", parts(BOX, BoxState::Wait)),
+        ("waiting for REGISTER", parts(BOX, BoxState::Requesting)),
+        ("registered", registered),
+        ("lit", lit),
+        ("16 grants held", holding),
     ]
 }
 
-fn ticking(name: &str, pair: Pair) -> Case {
-    let mut proved = Kept::new(pair.proved);
-    Case::short(
-        name,
-        move || {
-            black_box(&proved.next().tick());
+/// With a full list, whose first grant it waits for.
+fn holding(parts: BoxParts) -> BoxParts {
+    let grants: [Grant; 16] = std::array::from_fn(|place| Grant {
+        start: START + 1000 * place as u32,
+        length: 500,
+    });
+    BoxParts {
+        light: Light::Due {
+            left: START,
+            grant: grants[0],
+            sync: 0,
         },
-        plain_ticking(pair.plain),
-    )
+        grants: grants.into(),
+        ..parts
+    }
+}
+
+fn ticking(name: &str, pair: Pair) -> Case {
+    Case::short(name, proved_ticking(pair.proved), plain_ticking(pair.plain))
 }
 
 fn c_ticking(pair: Pair) -> Case {
-    let mut block = Kept::new(*pair.proved.words());
+    let mut block = Kept::new(*pair.proved.words(), TICKS);
     let mut frames = [0; sys::BOX_FRAMES_OCTETS];
     let mut reply = [0; sys::BOX_REPLY_WORDS];
     Case::short(
@@ -66,11 +100,46 @@ fn c_ticking(pair: Pair) -> Case {
     )
 }
 
+fn proved_ticking(whole: FloorBox) -> impl FnMut() {
+    let mut proved = Kept::new(whole, TICKS);
+    move || {
+        black_box(&proved.next().tick());
+    }
+}
+
 fn plain_ticking(whole: plain::FloorBox) -> impl FnMut() {
-    let mut plain = Kept::new(whole);
+    let mut plain = Kept::new(whole, TICKS);
     move || {
         black_box(&plain.next().tick());
     }
+}
+
+fn advancing(name: &str, floor_box: &FloorBox) -> Case {
+    let (ticks, calls) = reach(floor_box);
+    let mut proved = Kept::new(floor_box.clone(), calls);
+    Case::short(
+        format!("box advance by {}, {name}", thousands(ticks)),
+        move || {
+            black_box(&proved.next().advance(black_box(ticks)));
+        },
+        proved_ticking(floor_box.clone()),
+    )
+}
+
+/// Ticks of an advance at which nothing ends, and how many such can be made.
+fn reach(floor_box: &FloorBox) -> (u64, u32) {
+    match floor_box.parts().light {
+        Light::Open { .. } => (u64::from(TICKS), 1),
+        _ => (MOST_TICKS, ADVANCES),
+    }
+}
+
+/// Advances by 65,536 before a REPORT or a GATE comes.
+pub const ADVANCES: u32 = 40;
+
+/// A number in groups of three digits, below a million.
+pub fn thousands(number: u64) -> String {
+    format!("{},{:03}", number / 1000, number % 1000)
 }
 
 /// A GATE of four grants. The box is set back before each, so that its list
@@ -103,13 +172,13 @@ fn gate() -> Frame {
 
 /// A registered box.
 pub fn registered(address: u64) -> Pair {
-    pair(address, BoxState::Registered, 0)
+    pair(&parts(address, BoxState::Registered))
 }
 
-/// A box in this state; `window` ticks are left of a grant's window, if any.
-fn pair(address: u64, state: BoxState, window: u32) -> Pair {
+/// A box in this state, at rest and with every timer full.
+pub fn parts(address: u64, state: BoxState) -> BoxParts {
     let registered = u32::from(state == BoxState::Registered);
-    let parts = BoxParts {
+    BoxParts {
         address,
         count: 0,
         state,
@@ -118,19 +187,20 @@ fn pair(address: u64, state: BoxState, window: u32) -> Pair {
         report: registered * 3_125_000,
         port: 0,
         sync: 0,
-        light: match window {
-            0 => Light::Rest,
-            left => Light::Open { left },
-        },
+        light: Light::Rest,
         grants: UpTo::default(),
-    };
+    }
+}
+
+fn pair(parts: &BoxParts) -> Pair {
     Pair {
-        proved: FloorBox::restored(&parts).expect("it is sound"),
-        plain: plain_box(&parts),
+        proved: FloorBox::restored(parts).expect("it is sound"),
+        plain: plain_box(parts),
     }
 }
 
 fn plain_box(parts: &BoxParts) -> plain::FloorBox {
+    let grants: Vec<_> = parts.grants.iter().map(plain_grant).collect();
     plain::FloorBox {
         address: Address(parts.address),
         count: Count(parts.count),
@@ -143,36 +213,64 @@ fn plain_box(parts: &BoxParts) -> plain::FloorBox {
         wait: parts.wait,
         watchdog: parts.watchdog,
         report: parts.report,
-        light: match parts.light {
-            Light::Open { left } => plain::Light::Open { left },
-            _ => plain::Light::Rest,
-        },
+        light: plain_light(&parts.light),
+        grants: GrantList::of(&grants).expect("sixteen at most"),
         ..plain::FloorBox::default()
     }
 }
 
-/// A box that is set back now and then.
-struct Kept<B> {
-    whole: B,
-    now: B,
-    ticks: u32,
+fn plain_light(light: &Light) -> plain::Light {
+    match *light {
+        Light::Rest => plain::Light::Rest,
+        Light::Due { left, grant, sync } => plain::Light::Due {
+            left,
+            grant: plain_grant(&grant),
+            sync,
+        },
+        Light::Open { left } => plain::Light::Open { left },
+        _ => unreachable!("no such box is measured"),
+    }
 }
 
-impl<B: Clone> Kept<B> {
-    fn new(whole: B) -> Kept<B> {
-        Kept {
-            now: whole.clone(),
-            whole,
-            ticks: 0,
+fn plain_grant(grant: &Grant) -> plain::Grant {
+    plain::Grant {
+        start: Count(grant.start),
+        length: grant.length,
+    }
+}
+
+#[cfg(test)]
+mod tests {
+    use super::*;
+
+    #[test]
+    fn nothing_ends_while_a_box_is_measured() {
+        for (name, parts) in states() {
+            let mut floor_box = pair(&parts).proved;
+            let (ticks, calls) = reach(&floor_box);
+            for _ in 0..calls {
+                let told = floor_box.advance(ticks).unwrap();
+                assert_eq!(told.made, ticks, "{name}");
+                assert!(told.reply.frames().is_empty(), "{name}");
+                assert!(told.reply.notices().next().is_none(), "{name}");
+            }
+            assert!(ticks * u64::from(calls) >= u64::from(TICKS));
         }
     }
 
-    fn next(&mut self) -> &mut B {
-        self.ticks += 1;
-        if self.ticks == TICKS {
-            self.now.clone_from(&self.whole);
-            self.ticks = 0;
+    #[test]
+    fn the_same_box_is_measured_in_both() {
+        for (name, parts) in states() {
+            let Pair {
+                mut proved,
+                mut plain,
+            } = pair(&parts);
+            for _ in 0..1000 {
+                proved.tick().unwrap();
+                plain.tick().unwrap();
+            }
+            let proved = proved.parts();
+            assert_eq!(plain, plain_box(&proved), "{name}");
         }
-        black_box(&mut self.now)
     }
 }

@@ -1,9 +1,10 @@
-//! Calls of a head, and the ticks of a head with all its boxes.
+//! Calls of a head.
 
-use crate::boxes::{registered, BOX};
+use crate::boxes::{thousands, ADVANCES, BOX};
 use crate::frames::written;
+use crate::kept::Kept;
 use crate::measure::Case;
-use crustnewt::sys::{self, HeadMemory};
+use crustnewt::sys::{self, HeadMemory, MOST_TICKS};
 use crustnewt::{Body, Frame, Head, HeadParts, Link, LinkState, Message, Table, VecTable, Window};
 use plain::{Address, HeadAnswer, Refusal};
 use std::hint::black_box;
@@ -14,24 +15,20 @@ pub const HEAD: u64 = 0x0200_0000_0001;
 /// Ticks after which a head is set back, so that no timer ends.
 const TICKS: u32 = 1_000_000;
 const WATCHDOG: u32 = 62_500_000;
-const PERIOD: u32 = 3_125_000;
-
-/// Boxes of the simulated second.
-const BOXES: usize = 64;
-/// The part of it that is made: one in so many.
-const PART: u32 = 1000;
-const RUNS: usize = 5;
+/// Ticks between two GATEs for a box, and between two of its REPORTs.
+pub const PERIOD: u32 = 3_125_000;
 
 /// The independent head with its table and output.
 #[derive(Clone)]
-struct Plain {
+pub struct Plain {
     head: plain::Head,
     links: Vec<plain::Link>,
     output: Vec<u8>,
 }
 
 impl Plain {
-    fn tick(&mut self) -> Result<HeadAnswer, Refusal> {
+    /// A tick.
+    pub fn tick(&mut self) -> Result<HeadAnswer, Refusal> {
         self.head.tick(&mut self.links, &mut self.output)
     }
 
@@ -44,54 +41,67 @@ impl Plain {
 
 /// The same head for both.
 #[derive(Clone)]
-struct Pair {
-    proved: Head<VecTable>,
-    plain: Plain,
+pub struct Pair {
+    /// For the proved library.
+    pub proved: Head<VecTable>,
+    /// For the independent program.
+    pub plain: Plain,
 }
 
 /// Addresses of the boxes that hold the links.
 type Addresses = fn(usize) -> u64;
 
 /// One after the other, as from one reel.
-fn in_a_row(place: usize) -> u64 {
+pub fn in_a_row(place: usize) -> u64 {
     BOX + place as u64
 }
 
-/// Individual addresses without any order.
+/// Without any order, as from many makers: local individual addresses, whose
+/// other 46 bits are random. Always the same ones.
 fn scattered(place: usize) -> u64 {
-    let mixed = (place as u64 + 1).wrapping_mul(0x9E37_79B9_7F4A_7C15);
-    0x0200_0000_0000 | mixed >> 24
+    const LOCAL: u64 = 0x0200_0000_0000;
+    const GROUP: u64 = 0x0100_0000_0000;
+    (random(place) >> 16) & !GROUP | LOCAL
 }
 
-/// Ticks and a report heard for tables of several sizes, and all together.
+/// The number at this place of a random row (SplitMix64).
+fn random(place: usize) -> u64 {
+    let state = (place as u64 + 1).wrapping_mul(0x9E37_79B9_7F4A_7C15);
+    let mixed = (state ^ state >> 30).wrapping_mul(0xBF58_476D_1CE4_E5B9);
+    let mixed = (mixed ^ mixed >> 27).wrapping_mul(0x94D0_49BB_1331_11EB);
+    mixed ^ mixed >> 31
+}
+
+/// Ticks and a report heard, for tables of several sizes.
 pub fn cases() -> Vec<Case> {
-    let mut cases: Vec<Case> = [1, 8, 64]
+    let mut cases: Vec<Case> = SIZES
         .map(|links| ticking(&format!("head tick, {}", counted(links)), links, in_a_row))
         .into();
-    cases.extend([8, 64].map(|links| {
+    cases.extend(SIZES.map(|links| {
         let name = format!("head tick, {}, scattered addresses", counted(links));
         ticking(&name, links, scattered)
     }));
     cases.push(c_ticking(8));
-    cases.extend([1, 8, 64].map(hearing));
-    cases.push(second());
+    cases.extend(SIZES.map(hearing));
     cases
 }
+
+/// Advances at which nothing ends, beside a tick of each.
+pub fn advances() -> Vec<Case> {
+    SIZES.map(advancing).into()
+}
+
+/// Links of the tables.
+const SIZES: [usize; 3] = [1, 8, 64];
 
 fn counted(links: usize) -> String {
     let plural = if links == 1 { "link" } else { "links" };
     format!("{links} {plural}")
 }
 
-/// A head with so many registered links.
-fn pair(links: usize, addresses: Addresses) -> Pair {
-    let table = (0..links).map(|place| Link {
-        address: addresses(place),
-        state: LinkState::Registered,
-        wait: 0,
-        watchdog: WATCHDOG,
-        periodic: PERIOD,
-    });
+/// A head with so many registered links, and every timer full.
+pub fn pair(links: usize, addresses: Addresses) -> Pair {
+    let table = (0..links).map(|place| registered(addresses(place), PERIOD));
     let plain = Plain {
         head: plain::Head {
             address: Address(HEAD),
@@ -100,15 +110,31 @@ fn pair(links: usize, addresses: Addresses) -> Pair {
         links: table.clone().map(plain_link).collect(),
         output: vec![0; 60 * links],
     };
+    let proved = restored(table);
+    Pair { proved, plain }
+}
+
+/// A head over these links, at count 0.
+pub fn restored(links: impl Iterator<Item = Link>) -> Head<VecTable> {
     let parts = HeadParts {
         address: HEAD,
         count: 0,
         window: Window::Idle,
     };
-    let table = VecTable::from_words(table.map(|link| link.words()).collect());
+    let table = VecTable::from_words(links.map(|link| link.words()).collect());
     let table = table.expect("it has 1 to 64 links");
-    let proved = Head::restored(&parts, table).expect("it is sound");
-    Pair { proved, plain }
+    Head::restored(&parts, table).expect("it is sound")
+}
+
+/// A link that a registered box holds.
+pub fn registered(address: u64, periodic: u32) -> Link {
+    Link {
+        address,
+        state: LinkState::Registered,
+        wait: 0,
+        watchdog: WATCHDOG,
+        periodic,
+    }
 }
 
 fn plain_link(link: Link) -> plain::Link {
@@ -123,34 +149,22 @@ fn plain_link(link: Link) -> plain::Link {
 
 fn ticking(name: &str, links: usize, addresses: Addresses) -> Case {
     let Pair { proved, plain } = pair(links, addresses);
-    let (mut now, mut ticks) = (proved.clone(), 0);
-    Case::short(
-        name,
-        move || {
-            if is_over(&mut ticks) {
-                now.clone_from(&proved);
-            }
-            black_box(&black_box(&mut now).tick());
-        },
-        plain_ticking(plain),
-    )
+    Case::short(name, proved_ticking(proved), plain_ticking(plain))
 }
 
 fn c_ticking(links: usize) -> Case {
     let Pair { proved, plain } = pair(links, in_a_row);
-    let (head, table) = (*proved.words(), proved.table().words().to_vec());
-    let (mut head_now, mut table_now, mut ticks) = (head, table.clone(), 0);
+    let words = (*proved.words(), proved.table().words().to_vec());
+    let mut words = Kept::new(words, TICKS);
     let mut output = vec![0; sys::FRAME_OCTETS * links];
     let mut reply = [0; sys::HEAD_REPLY_WORDS];
     Case::short(
         format!("head tick, {}, the C call", counted(links)),
         move || {
-            if is_over(&mut ticks) {
-                (head_now, table_now) = (head, table.clone());
-            }
+            let (head, links) = words.next();
             black_box(sys::head_tick(HeadMemory {
-                head: black_box(&mut head_now),
-                links: black_box(&mut table_now),
+                head,
+                links,
                 output: black_box(&mut output),
                 reply: black_box(&mut reply),
             }));
@@ -159,20 +173,34 @@ fn c_ticking(links: usize) -> Case {
     )
 }
 
-fn plain_ticking(whole: Plain) -> impl FnMut() {
-    let (mut now, mut ticks) = (whole.clone(), 0);
+fn proved_ticking(whole: Head<VecTable>) -> impl FnMut() {
+    let mut proved = Kept::new(whole, TICKS);
     move || {
-        if is_over(&mut ticks) {
-            now.clone_from(&whole);
-        }
-        black_box(&black_box(&mut now).tick());
+        black_box(&proved.next().tick());
     }
 }
 
-/// Counts a tick; true when it is time to set the head back.
-fn is_over(ticks: &mut u32) -> bool {
-    *ticks = (*ticks + 1) % TICKS;
-    *ticks == 0
+fn plain_ticking(whole: Plain) -> impl FnMut() {
+    let mut plain = Kept::new(whole, TICKS);
+    move || {
+        black_box(&plain.next().tick());
+    }
+}
+
+fn advancing(links: usize) -> Case {
+    let whole = pair(links, in_a_row).proved;
+    let mut proved = Kept::new(whole.clone(), ADVANCES);
+    Case::short(
+        format!(
+            "head advance by {}, {}",
+            thousands(MOST_TICKS),
+            counted(links)
+        ),
+        move || {
+            black_box(&proved.next().advance(black_box(MOST_TICKS)));
+        },
+        proved_ticking(whole),
+    )
 }
 
 /// A REPORT on the last link; it leaves head and table as they are.
@@ -198,34 +226,34 @@ fn report(address: u64) -> Frame {
     written(&Message::new(EVERYONE, address, 0, &Body::Report))
 }
 
-/// Head and 64 boxes, all registered and quiet, through a part of a second;
-/// each tick is made. The table shows the whole second.
-fn second() -> Case {
-    let Pair { proved, plain } = pair(BOXES, in_a_row);
-    let boxes = || (0..BOXES).map(|place| registered(in_a_row(place)));
-    let proved_boxes: Vec<_> = boxes().map(|pair| pair.proved).collect();
-    let plain_boxes: Vec<_> = boxes().map(|pair| pair.plain).collect();
-    let ticks = 62_500_000 / PART;
-    let case = Case::short(
-        format!("a second of head and 64 boxes (1/{PART} made)"),
-        move || {
-            let (mut head, mut boxes) = (proved.clone(), proved_boxes.clone());
-            for _ in 0..ticks {
-                black_box(&head.tick());
-                for floor_box in &mut boxes {
-                    black_box(&floor_box.tick());
-                }
+#[cfg(test)]
+mod tests {
+    use super::*;
+    use std::collections::HashSet;
+
+    #[test]
+    fn nothing_ends_while_a_head_is_measured() {
+        for links in SIZES {
+            let mut head = pair(links, scattered).proved;
+            for _ in 0..ADVANCES {
+                let told = head.advance(MOST_TICKS).unwrap();
+                assert_eq!(told.made, MOST_TICKS);
+                assert!(told.reply.frames().is_empty());
             }
-        },
-        move || {
-            let (mut head, mut boxes) = (plain.clone(), plain_boxes.clone());
-            for _ in 0..ticks {
-                black_box(&head.tick());
-                for floor_box in &mut boxes {
-                    black_box(&floor_box.tick());
-                }
-            }
-        },
-    );
-    case.long(RUNS, f64::from(PART))
+            assert!(head.parts().count > TICKS);
+        }
+    }
+
+    #[test]
+    fn scattered_addresses_are_all_over_the_place() {
+        let addresses: HashSet<u64> = (0..64).map(scattered).collect();
+        assert_eq!(addresses.len(), 64);
+        let (mut some, mut all) = (0, u64::MAX);
+        for address in addresses {
+            (some, all) = (some | address, all & address);
+        }
+        // Every bit but those of a local individual address is both.
+        assert_eq!(some, 0xFEFF_FFFF_FFFF);
+        assert_eq!(all, 0x0200_0000_0000);
+    }
 }

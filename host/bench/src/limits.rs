@@ -1,9 +1,9 @@
 //! The limits that ratios are held to: they stand in `docs/PERFORMANCE.md`,
-//! in the column "Limit" of its table.
+//! in the columns "Limit" of its tables.
 
 const PAGE: &str = include_str!("../../../docs/PERFORMANCE.md");
 
-/// A row of the table: its name and its limit.
+/// A row of a table: its name and its limit.
 pub type Limit = (&'static str, f64);
 
 /// Every row that has a limit.
@@ -12,19 +12,16 @@ pub fn limits() -> Vec<Limit> {
 }
 
 fn limits_in(page: &'static str) -> Vec<Limit> {
-    let mut cells = page.lines().map(cells);
-    let head = cells.by_ref().find_map(|cells| {
-        let limit = cells.iter().position(|cell| *cell == "Limit")?;
-        Some((limit, cells.len()))
-    });
-    let Some((limit, width)) = head else {
-        return Vec::new();
-    };
-    // Until the table ends; the line under its head has no number.
-    cells
-        .take_while(|cells| cells.len() == width)
-        .filter_map(|cells| Some((cells[0], cells[limit].parse().ok()?)))
-        .collect()
+    let (mut limits, mut column) = (Vec::new(), None);
+    for cells in page.lines().map(cells) {
+        let head = cells.iter().position(|cell| *cell == "Limit");
+        // A table lasts as long as its lines; the one under its head has no
+        // number.
+        column = head.or(column).filter(|column| *column < cells.len());
+        let limit = column.and_then(|column| cells[column].parse().ok());
+        limits.extend(limit.map(|limit| (cells[0], limit)));
+    }
+    limits
 }
 
 /// The cells of a line of a table.
@@ -47,12 +44,14 @@ mod tests {
     use super::*;
 
     #[test]
-    fn limits_are_read_from_their_column() {
+    fn limits_are_read_from_their_columns() {
         let page = "a | b\n\n| | Plain | Ratio | Limit |\n|---|---|---|---|\n\
                     | read X | 7 ns | 1.19 | 1.2 |\n| tick | 9 ns | 0.9 | 1 |\n\n\
-                    | other | 1 | 2 | 3 |\n";
+                    | other | 1 | 2 | 3 |\n\n\
+                    | | Ratio | Limit |\n|---|---|---|\n| advance | - | 0.001 |\n";
         let limits = limits_in(page);
-        assert_eq!(limits, [("read X", 1.2), ("tick", 1.0)]);
+        let expected = [("read X", 1.2), ("tick", 1.0), ("advance", 0.001)];
+        assert_eq!(limits, expected);
         assert_eq!(limit_of(&limits, "tick"), Some(1.0));
         assert_eq!(limit_of(&limits, "other"), None);
     }

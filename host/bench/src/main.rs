@@ -4,8 +4,10 @@
 mod boxes;
 mod frames;
 mod heads;
+mod kept;
 mod limits;
 mod measure;
+mod second;
 
 use limits::{limit_of, Limit};
 use measure::{Case, Times};
@@ -14,11 +16,13 @@ use std::process::ExitCode;
 const HELP: &str = "\
 Usage: bench [--check] [--only TEXT]
 
-Measures the same calls with the same inputs on the proved library and on the
-independent program in plain Rust, and prints a table in Markdown: time a call
-of each, how many times as long the proved one takes, and the limit of that
-ratio, which is read from docs/PERFORMANCE.md. Runs of the two take turns; a
-time is the median of 101 short runs, of the simulated second of 5.
+Measures calls side by side and prints two tables in Markdown, with the time a
+call, how many times as long the first takes, and the limit of that ratio, which
+is read from docs/PERFORMANCE.md. In the first table the same calls have the same
+inputs on the proved library and on the independent program in plain Rust; in the
+second the proved library advances by many ticks, and beside it makes a single
+one, or in the simulated second all of them. Runs of the two take turns; a time
+is the median of 101 short runs, of a simulated second of 5.
 
   --check      fail where a ratio is above its limit; a row that is gets two
                more tries, since a busy machine spoils one
@@ -26,7 +30,7 @@ time is the median of 101 short runs, of the simulated second of 5.
   --help       this text
 
 Exit status: 0 if all went well, 1 if a ratio was above its limit, or if the
-table on that page has not just the rows that are measured, 2 if the command
+tables on that page have not just the rows that are measured, 2 if the command
 line can't be followed. Build it for release: `./bench` at the repository's root
 does, and so does `cargo run --release -p bench`.";
 
@@ -78,28 +82,23 @@ fn options(words: &[String]) -> Result<Options, String> {
     Ok(options)
 }
 
-/// Prints the table; what is wrong with it, where that is asked.
+/// Rows that measure the same two things.
+struct Table {
+    /// What they are.
+    sides: [&'static str; 2],
+    cases: Vec<Case>,
+}
+
+/// Prints the tables; what is wrong with them, where that is asked.
 fn measure_all(options: &Options) -> Vec<String> {
     if cfg!(debug_assertions) {
         println!("Not built for release: these times say little.\n");
     }
-    let (limits, mut cases) = (limits::limits(), cases());
-    let mut broken = unlike(&limits, &cases);
-    cases.retain(|case| case.name.contains(&options.only));
-    print_row("", ["Proved", "Plain", "Ratio", "Limit"]);
-    println!("|---|---:|---:|---:|---:|");
-    for case in &mut cases {
-        let limit = limit_of(&limits, &case.name);
-        let times = measure(case, limit.filter(|_| options.check));
-        let [proved, plain, ratio] = times.columns();
-        let shown = limit.map_or_else(|| "none".to_owned(), |limit| format!("{limit:.1}"));
-        print_row(&case.name, [&proved, &plain, &ratio, &shown]);
-        if limit.is_some_and(|limit| times.ratio() > limit) {
-            broken.push(format!(
-                "{} is above its limit, {shown}: {ratio}",
-                case.name
-            ));
-        }
+    let (limits, tables) = (limits::limits(), tables());
+    let mut broken = unlike(&limits, &tables);
+    for mut table in tables {
+        table.cases.retain(|case| case.name.contains(&options.only));
+        broken.extend(measure_table(&mut table, &limits, options.check));
     }
     match options.check {
         true => broken,
@@ -107,11 +106,48 @@ fn measure_all(options: &Options) -> Vec<String> {
     }
 }
 
-fn cases() -> Vec<Case> {
-    [frames::cases(), boxes::cases(), heads::cases()]
-        .into_iter()
-        .flatten()
-        .collect()
+/// Prints a table, if it has rows; those that are above their limits.
+fn measure_table(table: &mut Table, limits: &[Limit], check: bool) -> Vec<String> {
+    let mut broken = Vec::new();
+    if table.cases.is_empty() {
+        return broken;
+    }
+    let [first, second] = table.sides;
+    print_row("", [first, second, "Ratio", "Limit"]);
+    println!("|---|---:|---:|---:|---:|");
+    for case in &mut table.cases {
+        let limit = limit_of(limits, &case.name);
+        let times = measure(case, limit.filter(|_| check));
+        let [first, second, ratio] = times.columns();
+        let shown = limit.map_or_else(|| "none".to_owned(), |limit| format!("{limit:?}"));
+        print_row(&case.name, [&first, &second, &ratio, &shown]);
+        if limit.is_some_and(|limit| times.ratio() > limit) {
+            let name = &case.name;
+            broken.push(format!("{name} is above its limit, {shown}: {ratio}"));
+        }
+    }
+    println!();
+    broken
+}
+
+fn tables() -> [Table; 2] {
+    let calls = [
+        frames::cases(),
+        boxes::cases(),
+        heads::cases(),
+        second::cases(),
+    ];
+    let advances = [boxes::advances(), heads::advances(), second::advances()];
+    [
+        Table {
+            sides: ["Proved", "Plain"],
+            cases: calls.into_iter().flatten().collect(),
+        },
+        Table {
+            sides: ["Advance", "Tick"],
+            cases: advances.into_iter().flatten().collect(),
+        },
+    ]
 }
 
 /// Measures a case, and again where it is above this limit; the best of it.
@@ -130,10 +166,10 @@ fn measure(case: &mut Case, limit: Option<f64>) -> Times {
 }
 
 /// Rows that are measured and have no limit, and the other way round.
-fn unlike(limits: &[Limit], cases: &[Case]) -> Vec<String> {
-    let is_measured = |name: &str| cases.iter().any(|case| case.name == name);
-    let unlimited = cases
-        .iter()
+fn unlike(limits: &[Limit], tables: &[Table]) -> Vec<String> {
+    let cases = || tables.iter().flat_map(|table| &table.cases);
+    let is_measured = |name: &str| cases().any(|case| case.name == name);
+    let unlimited = cases()
         .filter(|case| limit_of(limits, &case.name).is_none())
         .map(|case| format!("docs/PERFORMANCE.md has no limit for: {}", case.name));
     let unmeasured = limits
@@ -143,8 +179,8 @@ fn unlike(limits: &[Limit], cases: &[Case]) -> Vec<String> {
     unlimited.chain(unmeasured).collect()
 }
 
-fn print_row(name: &str, [proved, plain, ratio, limit]: [&str; 4]) {
-    println!("| {name:<43} | {proved:>9} | {plain:>8} | {ratio:>5} | {limit:>5} |");
+fn print_row(name: &str, [first, second, ratio, limit]: [&str; 4]) {
+    println!("| {name:<43} | {first:>9} | {second:>9} | {ratio:>7} | {limit:>5} |");
 }
 
 #[cfg(test)]
@@ -153,6 +189,6 @@ mod tests {
 
     #[test]
     fn the_page_has_a_limit_for_every_row_and_no_other() {
-        assert_eq!(unlike(&limits::limits(), &cases()), [""; 0]);
+        assert_eq!(unlike(&limits::limits(), &tables()), [""; 0]);
     }
 }

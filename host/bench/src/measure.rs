@@ -8,12 +8,12 @@ const RUNS: usize = 101;
 /// against the slices that a busy machine gives to others.
 const RUN: Duration = Duration::from_millis(1);
 
-/// The same call, proved and plain, to be measured as often as is wanted.
+/// Two calls side by side, to be measured as often as is wanted.
 pub struct Case {
-    /// As the table in `docs/PERFORMANCE.md` names it.
+    /// As the tables in `docs/PERFORMANCE.md` name it.
     pub name: String,
-    proved: Timed,
-    plain: Timed,
+    first: Timed,
+    second: Timed,
     runs: Runs,
 }
 
@@ -24,35 +24,36 @@ type Timed = Box<dyn FnMut(u32) -> f64>;
 enum Runs {
     /// Runs of as many calls as fill one.
     Short,
-    /// So many runs of one call, which stands for one so many times as long.
-    Long(usize, f64),
+    /// So many runs of one call, each of which stands for one so many times as
+    /// long.
+    Long(usize, [f64; 2]),
 }
 
 /// Nanoseconds a call.
 #[derive(Clone, Copy)]
 pub struct Times {
-    proved: f64,
-    plain: f64,
+    first: f64,
+    second: f64,
 }
 
 impl Case {
-    /// A short call.
+    /// Short calls.
     pub fn short(
         name: impl Into<String>,
-        proved: impl FnMut() + 'static,
-        plain: impl FnMut() + 'static,
+        first: impl FnMut() + 'static,
+        second: impl FnMut() + 'static,
     ) -> Case {
         Case {
             name: name.into(),
-            proved: timed(proved),
-            plain: timed(plain),
+            first: timed(first),
+            second: timed(second),
             runs: Runs::Short,
         }
     }
 
     /// The same, but a call makes a run by itself, of `runs`, and is a part of
-    /// something that is `whole` times as long.
-    pub fn long(self, runs: usize, whole: f64) -> Case {
+    /// something that is so many times as long.
+    pub fn long(self, runs: usize, whole: [f64; 2]) -> Case {
         Case {
             runs: Runs::Long(runs, whole),
             ..self
@@ -61,31 +62,41 @@ impl Case {
 
     /// Measures both. Their runs take turns, so that a busy spell meets both.
     pub fn measure(&mut self) -> Times {
-        let Case { proved, plain, .. } = self;
+        let Case { first, second, .. } = self;
         let (runs, calls, whole) = match self.runs {
-            Runs::Short => (RUNS, [calls_in_a_run(proved), calls_in_a_run(plain)], 1.0),
+            Runs::Short => (
+                RUNS,
+                [calls_in_a_run(first), calls_in_a_run(second)],
+                [1.0; 2],
+            ),
             Runs::Long(runs, whole) => (runs, [1, 1], whole),
         };
         let mut times = [Vec::new(), Vec::new()];
         for _ in 0..runs {
-            times[0].push(proved(calls[0]));
-            times[1].push(plain(calls[1]));
+            times[0].push(first(calls[0]));
+            times[1].push(second(calls[1]));
         }
-        let [proved, plain] = times.map(|times| whole * median(times));
-        Times { proved, plain }
+        let [first, second] = times.map(median);
+        Times {
+            first: whole[0] * first,
+            second: whole[1] * second,
+        }
     }
 }
 
 impl Times {
-    /// How many times as long the proved call takes.
+    /// How many times as long the first takes.
     pub fn ratio(&self) -> f64 {
-        self.proved / self.plain
+        self.first / self.second
     }
 
-    /// Both times and the ratio, as the table has them.
+    /// Both times and the ratio, as the tables have them.
     pub fn columns(&self) -> [String; 3] {
-        let ratio = format!("{:.2}", self.ratio());
-        [text(self.proved), text(self.plain), ratio]
+        let ratio = match self.ratio() {
+            small if small < 0.01 => format!("{small:.5}"),
+            ratio => format!("{ratio:.2}"),
+        };
+        [text(self.first), text(self.second), ratio]
     }
 }
 

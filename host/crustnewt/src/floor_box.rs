@@ -3,6 +3,7 @@
 mod parts;
 mod reply;
 
+use crate::advanced::Advanced;
 use crate::message::Frame;
 use crate::refusal::Refusal;
 use crate::sys::{self, BoxMemory, BOX_REPLY_WORDS, BOX_WORDS, FRAME_OCTETS};
@@ -100,6 +101,46 @@ impl FloorBox {
     #[inline]
     pub fn tick(&mut self) -> Result<BoxReply<'_>, Refusal> {
         self.call(sys::box_tick)
+    }
+
+    /// So many quanta have passed, 1 to 65,536: single ticks are made until
+    /// that many are, or one hands out a frame or a notice, or the next would
+    /// be refused.
+    ///
+    /// The reply is that of the last tick made. [`Refusal::Grant`] for another
+    /// number; after a refusal no tick was made.
+    ///
+    /// ```
+    /// # fn main() -> Result<(), crustnewt::Refusal> {
+    /// let mut floor_box = crustnewt::FloorBox::fresh(0x0200_0000_0031)?;
+    /// // A millisecond has passed.
+    /// let mut left = 62_500;
+    /// while left > 0 {
+    ///     let advanced = floor_box.advance(left)?;
+    ///     for frame in advanced.reply.frames() {
+    ///         // It waits to be sent.
+    ///         # let _ = frame;
+    ///     }
+    ///     left -= advanced.made;
+    /// }
+    /// assert_eq!(floor_box.count(), 62_500);
+    /// # Ok(())
+    /// # }
+    /// ```
+    #[inline]
+    pub fn advance(&mut self, ticks: u64) -> Result<Advanced<BoxReply<'_>>, Refusal> {
+        let mut made = [0];
+        let reply = self.call(|memory| sys::box_advance(ticks, memory, &mut made))?;
+        let [made] = made;
+        Ok(Advanced { reply, made })
+    }
+
+    /// How many ticks from now are sure to be done and to hand out nothing, up
+    /// to 65,536: none where one of its grants is chosen at the next tick, else
+    /// those before the next timer ends, which may be as silent.
+    #[inline]
+    pub fn ticks_until(&self) -> u64 {
+        sys::box_ticks_until(&self.words)
     }
 
     /// The frame to send now, of a waiting control frame and a waiting data

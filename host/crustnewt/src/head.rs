@@ -4,6 +4,7 @@ mod parts;
 mod reply;
 mod table;
 
+use crate::advanced::Advanced;
 use crate::message::Grant;
 use crate::refusal::Refusal;
 use crate::sys::{self, HeadMemory, HEAD_REPLY_WORDS, HEAD_WORDS};
@@ -152,6 +153,26 @@ impl<T: Table> Head<T> {
     #[inline]
     pub fn tick(&mut self) -> Result<HeadReply<'_>, Refusal> {
         self.call(sys::head_tick)
+    }
+
+    /// So many quanta have passed, 1 to 65,536: single ticks are made until
+    /// that many are, or one hands out a frame.
+    ///
+    /// The reply is that of the last tick made. [`Refusal::Grant`] for another
+    /// number; after a refusal no tick was made.
+    #[inline]
+    pub fn advance(&mut self, ticks: u64) -> Result<Advanced<HeadReply<'_>>, Refusal> {
+        let mut made = [0];
+        let reply = self.call(|memory| sys::head_advance(ticks, memory, &mut made))?;
+        let [made] = made;
+        Ok(Advanced { reply, made })
+    }
+
+    /// How many ticks from now hand out nothing, up to 65,536; below that, the
+    /// tick after them hands out a frame.
+    #[inline]
+    pub fn ticks_until(&self) -> u64 {
+        sys::head_ticks_until(&self.words, self.table.words())
     }
 
     /// The links of its table: link 1 first.

@@ -19,11 +19,12 @@
 //! let sent = head.open_window(&OpenWindow { grant, sync: 0, window: 400 })?;
 //! floor_box.hear(&sent.frames()[0], 250)?;
 //!
-//! // 100 to the start, 48 of random wait, 32 for the laser: then the box asks.
-//! for _ in 0..180 {
-//!     head.tick()?;
-//!     floor_box.tick()?;
-//! }
+//! // 100 to the start, 48 of random wait, 32 for the laser: then the box asks,
+//! // and goes no further until that is seen to.
+//! let advanced = floor_box.advance(1000)?;
+//! assert_eq!(advanced.made, 180);
+//! head.advance(180)?;
+//! head.hear(0, &advanced.reply.frames()[0])?;
 //! assert_eq!(floor_box.state(), BoxState::Requesting);
 //! # Ok(())
 //! # }
@@ -39,6 +40,7 @@
 #[cfg(feature = "std")]
 extern crate std;
 
+mod advanced;
 mod floor_box;
 mod head;
 mod message;
@@ -47,6 +49,7 @@ pub mod sys;
 mod up_to;
 mod word;
 
+pub use advanced::Advanced;
 pub use floor_box::{BoxNotice, BoxParts, BoxReply, BoxState, FloorBox, Light, Next};
 #[cfg(feature = "std")]
 pub use head::VecTable;

@@ -23,7 +23,8 @@ pub enum Refusal {
     State = 7,
     /// Not this party's address.
     Party = 8,
-    /// Start, length or number of grants is outside its range.
+    /// Start, length or number of grants, or a number of ticks, is outside its
+    /// range.
     Grant = 9,
     /// The address already holds a link.
     Held = 10,
@@ -96,7 +97,7 @@ impl fmt::Display for Refusal {
             Refusal::Link => "the link number isn't allowed here, is above the table, or is idle",
             Refusal::State => "not in this state",
             Refusal::Party => "not this party's address",
-            Refusal::Grant => "start, length or number of grants is outside its range",
+            Refusal::Grant => "a grant, their number or a number of ticks is outside its range",
             Refusal::Held => "the address already holds a link",
             Refusal::Full => "every link is held",
             Refusal::Output => "the output is shorter than 60 octets a link",

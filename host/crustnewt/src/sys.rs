@@ -27,6 +27,10 @@ pub const LINK_WORDS: usize = 5;
 pub const MOST_LINKS: usize = 64;
 /// Words that a call of the head tells.
 pub const HEAD_REPLY_WORDS: usize = 5;
+/// Words that an advance tells its ticks in.
+pub const MADE_WORDS: usize = 1;
+/// Most ticks of an advance.
+pub const MOST_TICKS: u64 = 65_536;
 
 /// What a call of the box is lent.
 #[derive(Debug)]
@@ -52,9 +56,10 @@ pub struct HeadMemory<'a> {
     pub reply: &'a mut [u64],
 }
 
-/// Declares calls that end with what a box's call is lent.
+/// Declares calls that end with what a box's call is lent, or with what is
+/// lent behind that.
 macro_rules! box_calls {
-    ($($name:ident($($first:ident: $kind:ty),*);)*) => {
+    ($($name:ident($($first:ident: $kind:ty),*)$([$($last:ident: $lent:ty),*])?;)*) => {
         extern "C" {
             $(fn $name(
                 $($first: $kind,)*
@@ -64,6 +69,7 @@ macro_rules! box_calls {
                 frames_octets: usize,
                 reply: *mut u64,
                 reply_words: usize,
+                $($($last: $lent,)*)?
             ) -> u8;)*
         }
     };
@@ -75,11 +81,12 @@ box_calls! {
     crustnewt_box_deregister();
     crustnewt_box_hear(octets: *const u8, octets_length: usize, random: u32);
     crustnewt_box_tick();
+    crustnewt_box_advance(ticks: u64)[made: *mut u64, made_words: usize];
 }
 
-/// Declares calls that end with what a head's call is lent.
+/// The same for calls of the head.
 macro_rules! head_calls {
-    ($($name:ident($($first:ident: $kind:ty),*);)*) => {
+    ($($name:ident($($first:ident: $kind:ty),*)$([$($last:ident: $lent:ty),*])?;)*) => {
         extern "C" {
             $(fn $name(
                 $($first: $kind,)*
@@ -91,6 +98,7 @@ macro_rules! head_calls {
                 output_octets: usize,
                 reply: *mut u64,
                 reply_words: usize,
+                $($($last: $lent,)*)?
             ) -> u8;)*
         }
     };
@@ -105,6 +113,7 @@ head_calls! {
     crustnewt_head_gate(link: usize, grants: *const u64, grants_words: usize, force: u8);
     crustnewt_head_hear(link: usize, octets: *const u8, octets_length: usize);
     crustnewt_head_tick();
+    crustnewt_head_advance(ticks: u64)[made: *mut u64, made_words: usize];
 }
 
 extern "C" {
@@ -116,6 +125,13 @@ extern "C" {
         data: *const u8,
         data_octets: usize,
     ) -> u8;
+    fn crustnewt_box_ticks_until(block: *const u64, block_words: usize) -> u64;
+    fn crustnewt_head_ticks_until(
+        head: *const u64,
+        head_words: usize,
+        links: *const u64,
+        links_words: usize,
+    ) -> u64;
     fn crustnewt_head_fresh(
         address: u64,
         head: *mut u64,
@@ -139,9 +155,10 @@ extern "C" {
     ) -> u8;
 }
 
-/// Calls a function of the box: what comes first, then what is lent.
+/// Calls a function of the box: what comes first, then what is lent, then what
+/// is lent behind that.
 macro_rules! call_box {
-    ($name:ident($($first:expr),*), $memory:expr) => {{
+    ($name:ident($($first:expr),*), $memory:expr $(, $last:expr)*) => {{
         let BoxMemory { block, frames, reply } = $memory;
         // SAFETY: pointers and lengths are those of slices that nobody else
         // holds while the call runs (see the file's head).
@@ -154,14 +171,15 @@ macro_rules! call_box {
                 frames.len(),
                 reply.as_mut_ptr(),
                 reply.len(),
+                $($last.as_mut_ptr(), $last.len(),)*
             )
         }
     }};
 }
 
-/// Calls a function of the head: what comes first, then what is lent.
+/// The same for a function of the head.
 macro_rules! call_head {
-    ($name:ident($($first:expr),*), $memory:expr) => {{
+    ($name:ident($($first:expr),*), $memory:expr $(, $last:expr)*) => {{
         let HeadMemory { head, links, output, reply } = $memory;
         // SAFETY: as for a box.
         unsafe {
@@ -175,6 +193,7 @@ macro_rules! call_head {
                 output.len(),
                 reply.as_mut_ptr(),
                 reply.len(),
+                $($last.as_mut_ptr(), $last.len(),)*
             )
         }
     }};
@@ -209,6 +228,19 @@ pub fn box_hear(octets: &[u8], random: u32, memory: BoxMemory<'_>) -> u8 {
 #[inline]
 pub fn box_tick(memory: BoxMemory<'_>) -> u8 {
     call_box!(crustnewt_box_tick(), memory)
+}
+
+/// `crustnewt_box_advance`: [`MADE_WORDS`] for `made`.
+#[inline]
+pub fn box_advance(ticks: u64, memory: BoxMemory<'_>, made: &mut [u64]) -> u8 {
+    call_box!(crustnewt_box_advance(ticks), memory, made)
+}
+
+/// `crustnewt_box_ticks_until`.
+#[inline]
+pub fn box_ticks_until(block: &[u64]) -> u64 {
+    // SAFETY: as for a box, and it is only read.
+    unsafe { crustnewt_box_ticks_until(block.as_ptr(), block.len()) }
 }
 
 /// `crustnewt_box_next_to_send`.
@@ -292,6 +324,19 @@ pub fn head_hear(link: usize, octets: &[u8], memory: HeadMemory<'_>) -> u8 {
 #[inline]
 pub fn head_tick(memory: HeadMemory<'_>) -> u8 {
     call_head!(crustnewt_head_tick(), memory)
+}
+
+/// `crustnewt_head_advance`: [`MADE_WORDS`] for `made`.
+#[inline]
+pub fn head_advance(ticks: u64, memory: HeadMemory<'_>, made: &mut [u64]) -> u8 {
+    call_head!(crustnewt_head_advance(ticks), memory, made)
+}
+
+/// `crustnewt_head_ticks_until`.
+#[inline]
+pub fn head_ticks_until(head: &[u64], links: &[u64]) -> u64 {
+    // SAFETY: as for a box, and both are only read.
+    unsafe { crustnewt_head_ticks_until(head.as_ptr(), head.len(), links.as_ptr(), links.len()) }
 }
 
 /// `crustnewt_read`.

@@ -31,6 +31,8 @@ fn lengths_are_the_headers() {
         ("LINK_WORDS", sys::LINK_WORDS),
         ("MOST_LINKS", sys::MOST_LINKS),
         ("HEAD_REPLY_WORDS", sys::HEAD_REPLY_WORDS),
+        ("MADE_WORDS", sys::MADE_WORDS),
+        ("MOST_TICKS", sys::MOST_TICKS as usize),
     ] {
         assert_eq!(numbers[name], length, "{name}");
     }

@@ -52,8 +52,16 @@ const OPEN_BOX: Block = registered([7, 100, 0, 0]);
 const HEAD: [u64; sys::HEAD_WORDS] = [HEAD_ADDRESS, 7, 1, 5, 100];
 const LINKS: [u64; 2 * sys::LINK_WORDS] = [BOX_ADDRESS, 2, 0, 1000, 1000, 0, 0, 0, 0, 0];
 
-fn numbers_of_box(block: &Block) -> [u8; 3] {
-    [sys::box_tick, sys::box_register, sys::box_deregister].map(|call| {
+/// A tick's, a client's two wishes' and an advance's.
+fn numbers_of_box(block: &Block) -> [u8; 4] {
+    let advance = |memory: BoxMemory<'_>| sys::box_advance(1, memory, &mut [0]);
+    let calls: [fn(BoxMemory<'_>) -> u8; 4] = [
+        sys::box_tick,
+        sys::box_register,
+        sys::box_deregister,
+        advance,
+    ];
+    calls.map(|call| {
         let mut left = *block;
         let number = call(BoxMemory {
             block: &mut left,
@@ -74,7 +82,8 @@ fn lets_out(block: &Block) -> [u8; 3] {
 }
 
 fn require_unsound_box(block: &Block, what: &str) {
-    assert_eq!(numbers_of_box(block), [UNSOUND; 3], "{what}");
+    assert_eq!(numbers_of_box(block), [UNSOUND; 4], "{what}");
+    assert_eq!(sys::box_ticks_until(block), 0, "{what}");
     assert_eq!(
         FloorBox::from_words(*block),
         Err(Refusal::Unsound),
@@ -88,16 +97,24 @@ fn require_nobodys_box(block: &Block, what: &str) {
     assert_eq!(BoxParts::of_words(block), None, "{what}");
 }
 
+/// A tick's, which is an advance's too.
 fn number_of_head(head: &[u64], links: &[u64]) -> u8 {
-    let (mut left, mut table) = (head.to_vec(), links.to_vec());
-    let number = sys::head_tick(HeadMemory {
-        head: &mut left,
-        links: &mut table,
-        output: &mut [0; 2 * sys::FRAME_OCTETS],
-        reply: &mut [0; sys::HEAD_REPLY_WORDS],
+    let advance = |memory: HeadMemory<'_>| sys::head_advance(1, memory, &mut [0]);
+    let calls: [fn(HeadMemory<'_>) -> u8; 2] = [sys::head_tick, advance];
+    let [tick, advance] = calls.map(|call| {
+        let (mut left, mut table) = (head.to_vec(), links.to_vec());
+        let number = call(HeadMemory {
+            head: &mut left,
+            links: &mut table,
+            output: &mut [0; 2 * sys::FRAME_OCTETS],
+            reply: &mut [0; sys::HEAD_REPLY_WORDS],
+        });
+        assert!(number == 0 || (left == head && table == links));
+        number
     });
-    assert!(number == 0 || (left == head && table == links));
-    number
+    assert_eq!(tick, advance);
+    assert_eq!(tick == 0, sys::head_ticks_until(head, links) > 0);
+    tick
 }
 
 /// The word at a place, made larger.
@@ -109,7 +126,7 @@ fn widened<const WORDS: usize>(words: &[u64; WORDS], place: usize, more: u64) ->
 
 #[test]
 fn no_word_of_a_box_is_cut() {
-    assert_eq!(numbers_of_box(&LIT_BOX), [0, 7, 0]);
+    assert_eq!(numbers_of_box(&LIT_BOX), [0, 7, 0, 0]);
     assert_eq!(lets_out(&OPEN_BOX), [1, 2, 1]);
     for block in [LIT_BOX, OPEN_BOX] {
         let wide = (1..GRANTS).map(|place| (place, WIDE));

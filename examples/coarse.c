@@ -1,0 +1,198 @@
+/* A floor box on a board whose timer ends with each millisecond, 62,500 quanta: first the example of crustnewt.h, word for word, then a board
+ * that it runs on. Prints the board's clock and what happens; examples/coarse.txt has it, worked out by hand: the laser is switched at its
+ * quantum, and a REPORT that is due while the board sleeps has the stamp of its own tick. */
+#include "crustnewt.h"
+
+// The board's: it sleeps so many quanta, or less if a frame comes, one has gone or its millisecond is over, and says how many have
+// passed. It takes the frame that came and knows the first that waits to be sent, of 0 octets where there is none or one is going.
+uint64_t sleep_for(uint64_t quanta);
+size_t take_frame(uint8_t *octets);
+void queue_frame(const uint8_t *octets);
+const uint8_t *first_in_queue(size_t *octets);
+void send_first(void);
+void laser(int on);
+uint32_t random_number(void);
+
+static uint64_t box[CRUSTNEWT_BOX_WORDS], reply[CRUSTNEWT_BOX_REPLY_WORDS];
+static uint8_t frames[CRUSTNEWT_BOX_FRAMES_OCTETS];
+#define LENT box, CRUSTNEWT_BOX_WORDS, frames, sizeof frames, reply, CRUSTNEWT_BOX_REPLY_WORDS
+
+static void told(void)
+{
+    uint64_t light = box[CRUSTNEWT_BOX_LIGHT];
+
+    for (uint64_t i = 0; i < reply[CRUSTNEWT_BOX_REPLY_FRAMES]; i++)
+        queue_frame(frames + i * CRUSTNEWT_FRAME_OCTETS);
+    laser(light == CRUSTNEWT_BOX_LIGHT_WARMING || light == CRUSTNEWT_BOX_LIGHT_ASKING || light == CRUSTNEWT_BOX_LIGHT_LIT ||
+          light == CRUSTNEWT_BOX_LIGHT_OPEN);
+}
+
+// All the quanta that have passed are made, and what is handed out on the way is looked at when it is.
+static uint8_t pass(uint64_t quanta)
+{
+    while (quanta > 0) {
+        uint64_t ticks = quanta < CRUSTNEWT_MOST_TICKS ? quanta : CRUSTNEWT_MOST_TICKS, made;
+        uint8_t number = crustnewt_box_advance(ticks, LENT, &made, 1);
+
+        if (number != CRUSTNEWT_DONE)
+            return number;
+        told();
+        quanta -= made;
+    }
+    return CRUSTNEWT_DONE;
+}
+
+// While the transmitter is at rest the millisecond will do: what is handed out waits for a window anyway.
+static uint64_t leisure(void)
+{
+    if (box[CRUSTNEWT_BOX_LIGHT] == CRUSTNEWT_BOX_LIGHT_REST)
+        return CRUSTNEWT_MOST_TICKS;
+    return crustnewt_box_ticks_until(box, CRUSTNEWT_BOX_WORDS) + 1;
+}
+
+uint8_t run(uint64_t address)
+{
+    uint8_t octets[2048], number = crustnewt_box_fresh(address, LENT);
+
+    if (number == CRUSTNEWT_DONE)
+        number = crustnewt_box_register(LENT);
+    while (number == CRUSTNEWT_DONE) {
+        const uint8_t *control;
+        size_t heard, waiting;
+
+        number = pass(sleep_for(leisure()));
+        heard = take_frame(octets);
+        if (heard > 0 && crustnewt_box_hear(octets, heard, random_number(), LENT) == CRUSTNEWT_DONE)
+            told();
+        control = first_in_queue(&waiting);
+        if (crustnewt_box_next_to_send(box, CRUSTNEWT_BOX_WORDS, control, waiting, control, 0) == 1)
+            send_first();
+    }
+    return number;
+}
+
+/* The board, with the head at the other end of a fibre of 50 quanta. */
+#include <inttypes.h>
+#include <stdio.h>
+#include <stdlib.h>
+#include <string.h>
+
+#define MILLISECOND 62500
+#define MILLISECONDS 52
+#define FRAME_QUANTA 42 /* that a frame takes to send */
+#define QUEUE 4
+#define ARRIVALS 3
+#define EVERYONE 0x0180C2000001
+#define HEAD 0x020000000001
+#define BOX 0x020000000031
+#define GRANT(start, length) ((uint64_t)(start) << 32 | (length))
+
+/* The frames that come: when, and the words of their messages. */
+static const struct {
+    uint64_t at, words[CRUSTNEWT_MESSAGE_WORDS];
+} arrivals[ARRIVALS] = {
+    {100000, {EVERYONE, HEAD, 99950, CRUSTNEWT_MESSAGE_DISCOVERY, 0, 0, GRANT(100050, 174)}},
+    {100400, {BOX, HEAD, 100350, CRUSTNEWT_MESSAGE_REGISTER, 3, 1, 10, 16}},
+    {100450, {BOX, HEAD, 100400, CRUSTNEWT_MESSAGE_GATE, 1, 0, GRANT(100600, 200)}},
+};
+
+static uint64_t now, sending_until;
+static uint8_t queue[QUEUE][CRUSTNEWT_FRAME_OCTETS];
+static size_t queued, arrived;
+static unsigned wakes;
+
+static void must(int holds, const char *what)
+{
+    if (holds)
+        return;
+    printf("%8" PRIu64 "  %s\n", now, what);
+    exit(1);
+}
+
+/* Says what becomes of a frame, and of one that is handed out its stamp. */
+static void say(const char *what, const uint8_t *frame, int stamp)
+{
+    static const char *const kinds[] = {"GATE", "discovery GATE", "REPORT", "REGISTER_REQ", "REGISTER", "REGISTER_ACK"};
+    uint64_t message[CRUSTNEWT_MESSAGE_WORDS];
+
+    must(crustnewt_read(frame, CRUSTNEWT_FRAME_OCTETS, message, CRUSTNEWT_MESSAGE_WORDS) == CRUSTNEWT_DONE, "not a frame");
+    printf("%8" PRIu64 "  %s %s", now, what, kinds[message[CRUSTNEWT_MESSAGE_KIND]]);
+    if (stamp)
+        printf(", stamp %" PRIu64, message[CRUSTNEWT_MESSAGE_TIMESTAMP]);
+    printf("\n");
+}
+
+static uint64_t sooner(uint64_t a, uint64_t b)
+{
+    return a < b ? a : b;
+}
+
+/* Ends the program when its time is over. */
+uint64_t sleep_for(uint64_t quanta)
+{
+    uint64_t before = now, until = sooner(now + quanta, (now / MILLISECOND + 1) * MILLISECOND);
+
+    if (now == (uint64_t)MILLISECONDS * MILLISECOND) {
+        must(box[CRUSTNEWT_BOX_STATE] == CRUSTNEWT_BOX_STATE_REGISTERED, "not registered");
+        printf("%8" PRIu64 "  registered, after %u wakes\n", now, wakes);
+        exit(0);
+    }
+    if (arrived < ARRIVALS)
+        until = sooner(until, arrivals[arrived].at);
+    if (now < sending_until)
+        until = sooner(until, sending_until);
+    now = until;
+    wakes++;
+    return now - before;
+}
+
+size_t take_frame(uint8_t *octets)
+{
+    if (arrived == ARRIVALS || arrivals[arrived].at != now)
+        return 0;
+    must(crustnewt_write(arrivals[arrived].words, CRUSTNEWT_MESSAGE_WORDS, octets, CRUSTNEWT_FRAME_OCTETS) == CRUSTNEWT_DONE,
+         "not a message");
+    arrived++;
+    say("hears", octets, 0);
+    return CRUSTNEWT_FRAME_OCTETS;
+}
+
+void queue_frame(const uint8_t *octets)
+{
+    say("hands out", octets, 1);
+    must(queued < QUEUE, "more frames than there is room for");
+    memcpy(queue[queued++], octets, CRUSTNEWT_FRAME_OCTETS);
+}
+
+const uint8_t *first_in_queue(size_t *octets)
+{
+    *octets = queued == 0 || now < sending_until ? 0 : CRUSTNEWT_FRAME_OCTETS;
+    return queue[0];
+}
+
+void send_first(void)
+{
+    say("sends", queue[0], 0);
+    memmove(queue[0], queue[1], --queued * CRUSTNEWT_FRAME_OCTETS);
+    sending_until = now + FRAME_QUANTA;
+}
+
+void laser(int on)
+{
+    static int was_on;
+
+    if (on != was_on)
+        printf("%8" PRIu64 "  laser %s\n", now, on ? "on" : "off");
+    was_on = on;
+}
+
+uint32_t random_number(void)
+{
+    return 250;
+}
+
+int main(void)
+{
+    printf("refused with %u\n", run(BOX));
+    return 1;
+}
