@@ -1,11 +1,17 @@
 // The head's calls over words in the caller's memory: head and table are taken from them, and laid back where a call is done.
 ghost use mathlib.Core.Path.{_≡_};
+ghost use mathlib.Core.List.{[], _∷_};
 ghost use Prim.Native.Nat.{_≤_};
 ghost use lib.ListN.{getD, replicate};
-ghost use Rattle.headcall.specs.Calls.{left, begunLeft, told, headAt, isLent, laidHead, keptHead, begunHead, toldOf, refusedOf, servedOf, heardOf, begunOf};
+ghost use Rattle.headcall.specs.Calls.{left, answerLeft, begunLeft, advanceLeft, told, isLent, laidHead, keptHead, begunHead, toldOf, answeredOf, refusedOf, servedOf, heardOf, begunOf, quietBy, advancedOf, advanceCall};
 ghost use Rattle.headcall.specs.Gate.{leaveOf, askedOf};
 ghost use Rattle.headcall.specs.Lend.{keptOf, lendLeft, lendOf, clearLeft, clearOf};
+ghost use Rattle.headpass.specs.Quiet.{untilCall};
+ghost use Rattle.headwords.specs.Table.{linksIn};
+ghost use Rattle.judging.specs.Judge.{hasRoom};
+ghost use Rattle.judging.specs.declared.Request.{Request as Requested};
 ghost use Rattle.links.specs.Link.{idle};
+ghost use Rattle.words.specs.Words.{laid};
 use clock::Count;
 use clock::Quanta;
 use frame::Address;
@@ -324,6 +330,7 @@ fn quiet_by(n: u64, head: &[u64], links: &[u64], out: usize) -> bool
     false
 }
 
+// As the core advances, and what is told of it.
 fn advanced(
     n: u64,
     head: &mut [u64],
@@ -333,7 +340,7 @@ fn advanced(
     made: &mut [u64],
 ) -> u8 {
     let answer = answered(Request::Advance(n), head, links, out);
-    lay_made(answer.made as u64, made);
+    lay_made(answer.made, made);
     tell(answer, reply)
 }
 

@@ -2,14 +2,13 @@
 // that move are written.
 ghost use mathlib.Core.Path.{_≡_};
 ghost use Prim.Native.Nat.{_+_, _-_, _*_, _≤_, _<_, min};
-ghost use mathlib.Core.List.{_++_};
-ghost use lib.ListN.{length, take, drop, getD, set, replicate};
-ghost use Rattle.headpass.specs.Passed.{lessOf, passedTo, passedHead, passedLinks};
-ghost use Rattle.headpass.specs.Judge.{fits, near, nearestTo, placeOf, holdsTo, spotted, differTo, windowFits, headFits, quietLinks};
+ghost use lib.Dec.{leb};
+ghost use lib.ListN.{length, drop, getD, set, replicate};
+ghost use Rattle.headpass.specs.Passed.{passedAt, passedHead, passedLinks};
+ghost use Rattle.headpass.specs.Judge.{fits, near, later, nearestTo, laterTo, placeOf, holdsTo, spotted, differTo, windowFits, headFits, quietLinks};
 ghost use Rattle.headpass.specs.Quiet.{headAt, untilCall};
 ghost use Rattle.headwords.specs.Head.{headWords};
-ghost use Rattle.headwords.specs.Table.{five, wordsAt};
-ghost use Rattle.clock.specs.declared.Timer.{Timer as Timed};
+ghost use Rattle.headwords.specs.Table.{wordsAt};
 ghost use Rattle.clock.specs.Timers.{runs};
 ghost use Rattle.head.specs.Head.{afterOf};
 ghost use Rattle.range.specs.Fits.{isIndividual};
@@ -316,7 +315,7 @@ fn less(left: u64, k: u64) -> u64
 
 fn pass_at(links: &mut [u64], at: usize, k: u64)
     requires { ⌜ at + 5 ≤ length (now links) ⌝ }
-    ensures { λ _. ⌜ now (links .exit) ≡ take at (now (links .entry)) ++ five (lessOf (wordsAt (drop at (now (links .entry)))) k) ++ drop (at + 5) (now (links .entry)) ⌝ }
+    ensures { λ _. ⌜ now (links .exit) ≡ passedAt at (now (links .entry)) k ⌝ }
 {
     links[at + 2] = less(links[at + 2], k);
     links[at + 3] = less(links[at + 3], k);
