@@ -2,13 +2,15 @@
 -- Assumes nothing.
 use Prim.Native.Nat.{ℕ, zero, suc, _*_, _/_, _≤_, min}
 use mathlib.Core.Path.{_≡_, refl, sym, ap, _∙_}
-use mathlib.Core.Bool.{Bool, true, false, cond}
+use mathlib.Core.Bool.{Bool, true, false, cond, _&&_, false≢true}
 use mathlib.Core.List.{List, [], _∷_, _++_, append-nil}
 use native.Mathlib.Omega.{arith}
 use native.Mathlib.Nat.{le-refl, not-suc-le-zero, le-of-suc-le-suc}
-use lib.Dec.{eqb}
+use borrow.Author.Tests.{leb-true}
+use lib.Dec.{eqb, leb}
 use lib.ListN.{length, take, drop, replicate, length-replicate, drop-of-length-le}
 use lib.Seq.{take-length}
+use Rattle.clock.specs.Laws.{reach-parts}
 use Rattle.clock.specs.Numbers.{inReach}
 use Rattle.frame.specs.Card.{numberOf}
 use Rattle.frame.specs.declared.Address.{Address}
@@ -36,7 +38,7 @@ use Rattle.serving.specs.Serve.{Served, doneOf, serveOf}
 use Rattle.serving.specs.declared.Answer.{Answer}
 use Rattle.words.specs.Laws.{laid-over}
 use Rattle.words.specs.Words.{laid}
-use Rattle.headcall.specs.Calls.{Left, left, AnswerLeft, answerLeft, begunLeft, advanceLeft, Told, told, isLent, laidHead, keptHead, keptLinks, begunHead, toldOf, answeredOf, handed, servedOf, advancedOf, refusedOf, heardOf, cleared, begunOf as begun}
+use Rattle.headcall.specs.Calls.{Left, left, AnswerLeft, answerLeft, begunLeft, advanceLeft, Told, told, isLent, laidHead, keptHead, keptLinks, begunHead, toldOf, answeredOf, handed, servedOf, advancedOf, advanceCall, quietBy, refusedOf, heardOf, cleared, begunOf as begun}
 use Rattle.headcall.specs.Lend.{keptOf, LendLeft, lendLeft, lendOf, ClearLeft, clearLeft, clearOf}
 
 length-places : (f : ℕ → Link → Link) (k : ℕ) (xs : List Link) → length (places f k xs) ≡ length xs
@@ -213,6 +215,27 @@ module _ (head links output : List ℕ) (room : hasRoom (linksIn (length links))
       let q = quietly head links h in
       rw (lent, quiet-tick (headAt head) (linksAt links) output (ready h) (omega (arith, h, q .until)))
       (still 1 (omega arith) h reply head′ links′ reply′ heads tables tells)
+
+pub quiet-parts : (n : ℕ) (head links : List ℕ) (octets : ℕ) → quietBy n head links octets ≡ true
+    → (inReach n ≡ true) × (hasRoom (linksIn (length links)) octets ≡ true) × (n ≤ untilCall head links)
+unfolding quietBy
+quiet-parts n head links octets h = by-test (inReach n) refl (hasRoom (linksIn (length links)) octets) refl h
+  where
+    by-test : (s : Bool) → inReach n ≡ s → (t : Bool) → hasRoom (linksIn (length links)) octets ≡ t → cond (s && t) (leb n (untilCall head links)) false ≡ true
+        → (inReach n ≡ true) × (hasRoom (linksIn (length links)) octets ≡ true) × (n ≤ untilCall head links)
+    by-test true e true f k = (e, f, leb-true n (untilCall head links) k)
+    by-test true e false f k = absurd (false≢true k)
+    by-test false e t f k = absurd (false≢true k)
+
+-- quiet ticks of an advance
+pub advance-passed : (n : ℕ) (head links output reply made head′ links′ reply′ made′ : List ℕ) → quietBy n head links (length output) ≡ true
+    → head′ ≡ passedHead head n → links′ ≡ passedLinks links n → reply′ ≡ laid (replicate 2 0) reply → made′ ≡ laid (n ∷ []) made
+    → (isLent (length head) (length reply) && leb 1 (length made)) ≡ true
+    → advanceLeft (left 0 head′ links′ output reply′) made′ ≡ advanceCall n head links output reply made
+unfolding advanceCall
+advance-passed n head links output reply made head′ links′ reply′ made′ quiet heads tables tells makes lent =
+    let p = quiet-parts n head links (length output) quiet in
+    rw lent (passed-by head links output (p .1) n (reach-parts n (p .0) .0) (p .2) reply head′ links′ reply′ heads tables tells (p .0) made made′ makes)
 
 pub begun-whole : (o : Address) (head links reply : List ℕ) (t : Bool) (n : ℕ) (a : Answer) (head′ links′ reply′ : List ℕ) (k : ℕ)
     → t ≡ isLent (length head) (length reply) → t ≡ true → n ≡ linksIn (length links)

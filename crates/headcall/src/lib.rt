@@ -338,7 +338,9 @@ fn advanced(
     out: &mut [u8],
     reply: &mut [u64],
     made: &mut [u64],
-) -> u8 {
+) -> u8
+    ensures { λ r. ⌜ advanceLeft (left r (now (head .exit)) (now (links .exit)) (now (out .exit)) (now (reply .exit))) (now (made .exit)) ≡ advancedOf n (now (head .entry)) (now (links .entry)) (now (out .entry)) (now (reply .entry)) (now (made .entry)) ⌝ }
+{
     let answer = answered(Request::Advance(n), head, links, out);
     lay_made(answer.made, made);
     tell(answer, reply)
@@ -352,7 +354,9 @@ pub fn advance(
     out: &mut [u8],
     reply: &mut [u64],
     made: &mut [u64],
-) -> u8 {
+) -> u8
+    ensures { λ r. ⌜ advanceLeft (left r (now (head .exit)) (now (links .exit)) (now (out .exit)) (now (reply .exit))) (now (made .exit)) ≡ advanceCall n (now (head .entry)) (now (links .entry)) (now (out .entry)) (now (reply .entry)) (now (made .entry)) ⌝ }
+{
     if is_lent(head.len(), reply.len()) & (1 <= made.len()) {
         if quiet_by(n, head, links, out.len()) {
             headpass::pass(head, links, n as u32);
