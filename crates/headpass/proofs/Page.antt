@@ -12,7 +12,7 @@ use lib.Dec.{eqb, leb, ltb}
 use lib.ListN.{length, drop, getD}
 use lib.Seq.{getD-drop}
 use Rattle.laws.specs.Cases.{cut}
-use Rattle.clock.specs.Numbers.{furthestAdvance}
+use Rattle.clock.specs.Numbers.{furthestAdvance, watchdog, periodic, wait}
 use Rattle.frame.specs.declared.Address.{Address}
 use Rattle.headwords.specs.Laws.{links-few, length-links, links-more}
 use Rattle.headwords.specs.Table.{linkIn, linksOf, linksIn, linksAt}
@@ -22,7 +22,8 @@ use Rattle.links.specs.Pass.{quietOf}
 use Rattle.links.specs.Sound.{soundOf}
 use Rattle.links.specs.declared.Link.{Link}
 use Rattle.survey.specs.Facts.{isFew, holds, anyHolds, allSound, different, soundTable, quietAll}
-use Rattle.headpass.specs.Judge.{fits, near, later, behind, linkWordsAt, addressAt, nearestTo, laterTo, holdsTo, repeatsAt, differTo, quietLinks}
+use Rattle.range.specs.Fits.{isIndividual}
+use Rattle.headpass.specs.Judge.{fits, near, still, behind, linkWordsAt, addressAt, nearestTo, stillTo, holdsTo, repeatsAt, differTo, quietLinks}
 use Rattle.headpass.proofs.Links.{Sounds, sounds, sound-fits}
 
 -- ---- one link more at the end of a table
@@ -251,6 +252,45 @@ least-two a b =
     (⊎-elim (λ (k : b < 2). rw (lt-leb 2 b k, lt-leb 2 (min a b) (omega (arith, k)))) (λ (k : 2 ≤ b). rw (le-leb 2 b k, le-leb 2 (min a b) (omega (arith, h, k)))) (cut b 2)))
     (cut a 2)
 
+-- none of the timers that must run rings at the next tick
+unfoldable later : LinkWords → Bool
+later w = cond (eqb (w .state) 2) (leb 2 (w .watchdog) && leb 2 (w .periodic)) (cond (eqb (w .state) 1) (leb 2 (w .wait)) true)
+
+six : (a b c d e f : Bool) → (a && b && c && d && e && f) ≡ ((a && b && d && f) && (c && e))
+six false b c d e f = refl
+six true false c d e f = refl
+six true true false false e f = refl
+six true true false true e f = sym (and-false f)
+six true true true false e f = refl
+six true true true true false f = sym (and-false f)
+six true true true true true f = sym (and-true f)
+
+five : (a b c d e : Bool) → (a && b && c && d && e) ≡ ((a && c && d && e) && b)
+five false b c d e = refl
+five true false c d e = sym (and-false (c && d && e))
+five true true c d e = sym (and-true (c && d && e))
+
+-- a still link is one that fits, and later
+still-is : (w : LinkWords) → still w ≡ (fits w && later w)
+unfolding still fits later
+still-is w = by-state (eqb (w .state) 2) (eqb (w .state) 1)
+  where
+    one : Bool
+    one = isIndividual (record { 0 = w .address })
+
+    none : Bool
+    none = eqb (w .state) 0 && eqb (w .address) 0 && eqb (w .wait) 0 && eqb (w .watchdog) 0 && eqb (w .periodic) 0
+
+    by-state : (s t : Bool)
+        → cond s (one && eqb (w .wait) 0 && leb 2 (w .watchdog) && leb (w .watchdog) watchdog && leb 2 (w .periodic) && leb (w .periodic) periodic)
+        (cond t (one && leb 2 (w .wait) && leb (w .wait) wait && eqb (w .watchdog) 0 && eqb (w .periodic) 0) none)
+        ≡ (cond s (one && eqb (w .wait) 0 && leb (w .watchdog) watchdog && leb (w .periodic) periodic)
+        (cond t (one && leb (w .wait) wait && eqb (w .watchdog) 0 && eqb (w .periodic) 0) none)
+        && cond s (leb 2 (w .watchdog) && leb 2 (w .periodic)) (cond t (leb 2 (w .wait)) true))
+    by-state true t = six one (eqb (w .wait) 0) (leb 2 (w .watchdog)) (leb (w .watchdog) watchdog) (leb 2 (w .periodic)) (leb (w .periodic) periodic)
+    by-state false true = five one (leb 2 (w .wait)) (leb (w .wait) wait) (eqb (w .watchdog) 0) (eqb (w .periodic) 0)
+    by-state false false = sym (and-true none)
+
 later-near : (w : LinkWords) (m : ℕ) → leb 2 (near w m) ≡ (leb 2 m && later w)
 unfolding near later
 later-near w m = by-state (eqb (w .state) 2) (eqb (w .state) 1)
@@ -263,20 +303,20 @@ later-near w m = by-state (eqb (w .state) 2) (eqb (w .state) 1)
     by-state false true = least-two m (w .wait)
     by-state false false = sym (and-true (leb 2 m))
 
-later-is : (n : ℕ) (ws : List ℕ) → laterTo n ws ≡ leb 2 (nearestTo n ws)
-unfolding laterTo nearestTo
-later-is zero ws = refl
-later-is (suc n) ws = rw (later-is n ws) (by-fit (fits (linkWordsAt n ws)))
+still-to : (n : ℕ) (ws : List ℕ) → stillTo n ws ≡ leb 2 (nearestTo n ws)
+unfolding stillTo nearestTo
+still-to zero ws = refl
+still-to (suc n) ws = rw (still-to n ws, still-is (linkWordsAt n ws)) (by-fit (fits (linkWordsAt n ws)))
   where
-    by-fit : (t : Bool) → (leb 2 (nearestTo n ws) && t && later (linkWordsAt n ws)) ≡ leb 2 (cond t (near (linkWordsAt n ws) (nearestTo n ws)) 0)
-    by-fit true = rw (and-true (leb 2 (nearestTo n ws))) (sym (later-near (linkWordsAt n ws) (nearestTo n ws)))
+    by-fit : (t : Bool) → (leb 2 (nearestTo n ws) && (t && later (linkWordsAt n ws))) ≡ leb 2 (cond t (near (linkWordsAt n ws) (nearestTo n ws)) 0)
+    by-fit true = sym (later-near (linkWordsAt n ws) (nearestTo n ws))
     by-fit false = rw (and-false (leb 2 (nearestTo n ws)))
 
 -- a table of which the next tick is quiet
-pub next-quiet : (ws : List ℕ) (n : ℕ) → n ≡ linksIn (length ws) → (n ≡ 0 → ⊥) → laterTo n ws ≡ true → leb 1 (quietLinks ws) ≡ differTo n ws
+pub next-quiet : (ws : List ℕ) (n : ℕ) → n ≡ linksIn (length ws) → (n ≡ 0 → ⊥) → stillTo n ws ≡ true → leb 1 (quietLinks ws) ≡ differTo n ws
 unfolding quietLinks
 next-quiet ws n e z l =
-    rw (← e, ne-eqb n 0 z) (by-differ (leb-true 2 (nearestTo n ws) (sym (later-is n ws) ∙ l)))
+    rw (← e, ne-eqb n 0 z) (by-differ (leb-true 2 (nearestTo n ws) (sym (still-to n ws) ∙ l)))
   where
     by-test : 2 ≤ nearestTo n ws → (t : Bool) → leb 1 (cond t (nearestTo n ws - 1) 0) ≡ t
     by-test h true = le-leb 1 (nearestTo n ws - 1) (omega (arith, h))
@@ -285,10 +325,10 @@ next-quiet ws n e z l =
     by-differ : 2 ≤ nearestTo n ws → leb 1 (cond (ltb (nearestTo n ws) 2) 0 (cond (differTo n ws) (nearestTo n ws - 1) 0)) ≡ differTo n ws
     by-differ h = rw (le-ltb (nearestTo n ws) 2 h) (by-test h (differTo n ws))
 
-pub next-rings : (ws : List ℕ) (n : ℕ) → n ≡ linksIn (length ws) → laterTo n ws ≡ false → leb 1 (quietLinks ws) ≡ false
+pub next-rings : (ws : List ℕ) (n : ℕ) → n ≡ linksIn (length ws) → stillTo n ws ≡ false → leb 1 (quietLinks ws) ≡ false
 unfolding quietLinks
 next-rings ws n e l =
-    rw (← e) (by-none (eqb n 0) (leb-false 2 (nearestTo n ws) (sym (later-is n ws) ∙ l)))
+    rw (← e) (by-none (eqb n 0) (leb-false 2 (nearestTo n ws) (sym (still-to n ws) ∙ l)))
   where
     by-none : (z : Bool) → nearestTo n ws < 2 → leb 1 (cond z 0 (cond (ltb (nearestTo n ws) 2) 0 (cond (differTo n ws) (nearestTo n ws - 1) 0))) ≡ false
     by-none true h = refl

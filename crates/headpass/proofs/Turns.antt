@@ -2,7 +2,7 @@
 -- Assumes nothing.
 use Prim.Native.Nat.{ℕ, zero, suc, _+_, _-_, _*_, _≤_, _<_, min}
 use mathlib.Core.Path.{_≡_, refl, sym, ap, _∙_}
-use mathlib.Core.Bool.{Bool, true, false, cond, not, _&&_, _||_}
+use mathlib.Core.Bool.{Bool, true, false, cond, not, _&&_, _||_, and-false}
 use mathlib.Core.List.{List}
 use mathlib.Core.Logic.{_⊎_, inl, inr, ⊎-elim}
 use native.Mathlib.Omega.{arith, mod-fact}
@@ -15,7 +15,7 @@ use Rattle.laws.specs.Cases.{cut}
 use Rattle.headwords.specs.Laws.{stored-there}
 use Rattle.headwords.specs.Table.{wordsAt}
 use Rattle.headwords.specs.declared.LinkWords.{LinkWords}
-use Rattle.headpass.specs.Judge.{fits, near, later, linkWordsAt, addressAt, nearestTo, laterTo, placeOf, holdsTo, repeatsAt, spotted, differTo}
+use Rattle.headpass.specs.Judge.{fits, near, still, linkWordsAt, addressAt, nearestTo, stillTo, placeOf, holdsTo, repeatsAt, spotted, differTo}
 use Rattle.headpass.specs.Passed.{lessOf, passedAt}
 
 near-zero : (w : LinkWords) → near w 0 ≡ 0
@@ -45,18 +45,14 @@ module _ (ws : List ℕ) where
       by-fit true e = rw e (near-zero (linkWordsAt n ws))
       by-fit false e = refl
 
-  pub later-stop : (n i : ℕ) → i < n → (fits (linkWordsAt i ws) && later (linkWordsAt i ws)) ≡ false → laterTo n ws ≡ false
-  unfolding laterTo
-  later-stop zero i l h = absurd (omega arith)
-  later-stop (suc n) i l h =
+  pub still-stop : (n i : ℕ) → i < n → still (linkWordsAt i ws) ≡ false → stillTo n ws ≡ false
+  unfolding stillTo
+  still-stop zero i l h = absurd (omega arith)
+  still-stop (suc n) i l h =
       ⊎-elim
-      (λ (k : i < n). rw (later-stop n i k h))
-      (λ (k : i ≡ n). by-before (laterTo n ws) (fits (linkWordsAt n ws)) (later (linkWordsAt n ws)) (ap (λ (j : ℕ). fits (linkWordsAt j ws) && later (linkWordsAt j ws)) (sym k) ∙ h))
+      (λ (k : i < n). rw (still-stop n i k h))
+      (λ (k : i ≡ n). rw (ap (λ (j : ℕ). still (linkWordsAt j ws)) (sym k) ∙ h) (and-false (stillTo n ws)))
       (last n i l)
-    where
-      by-before : (a b c : Bool) → (b && c) ≡ false → (a && b && c) ≡ false
-      by-before true b c e = e
-      by-before false b c e = refl
 
   pub differ-stop : (n i : ℕ) → i < n → repeatsAt i ws ≡ true → differTo n ws ≡ false
   unfolding differTo

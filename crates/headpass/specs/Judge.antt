@@ -25,9 +25,19 @@ fits w =
 unfoldable pub near : LinkWords → ℕ → ℕ
 near w m = cond (eqb (w .state) 2) (min (min m (w .watchdog)) (w .periodic)) (cond (eqb (w .state) 1) (min m (w .wait)) m)
 
--- none of them rings at the next tick
-unfoldable pub later : LinkWords → Bool
-later w = cond (eqb (w .state) 2) (leb 2 (w .watchdog) && leb 2 (w .periodic)) (cond (eqb (w .state) 1) (leb 2 (w .wait)) true)
+-- a sound link's words, of whose timers none rings at the next tick
+unfoldable pub still : LinkWords → Bool
+still w =
+    cond (eqb (w .state) 2)
+    (isIndividual (record { 0 = w .address })
+    && eqb (w .wait) 0
+    && leb 2 (w .watchdog)
+    && leb (w .watchdog) watchdog
+    && leb 2 (w .periodic)
+    && leb (w .periodic) periodic)
+    (cond (eqb (w .state) 1)
+    (isIndividual (record { 0 = w .address }) && leb 2 (w .wait) && leb (w .wait) wait && eqb (w .watchdog) 0 && eqb (w .periodic) 0)
+    (eqb (w .state) 0 && eqb (w .address) 0 && eqb (w .wait) 0 && eqb (w .watchdog) 0 && eqb (w .periodic) 0))
 
 -- the words of link i, counted from 0
 abbrev pub linkWordsAt : ℕ → List ℕ → LinkWords
@@ -45,9 +55,9 @@ unfoldable pub nearestTo : ℕ → List ℕ → ℕ
 nearestTo zero ws = behind
 nearestTo (suc i) ws = cond (fits (linkWordsAt i ws)) (near (linkWordsAt i ws) (nearestTo i ws)) 0
 
-unfoldable pub laterTo : ℕ → List ℕ → Bool
-laterTo zero ws = true
-laterTo (suc i) ws = laterTo i ws && fits (linkWordsAt i ws) && later (linkWordsAt i ws)
+unfoldable pub stillTo : ℕ → List ℕ → Bool
+stillTo zero ws = true
+stillTo (suc i) ws = stillTo i ws && still (linkWordsAt i ws)
 
 -- where the mark of an address stands
 unfoldable pub placeOf : ℕ → ℕ → ℕ

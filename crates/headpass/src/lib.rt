@@ -5,7 +5,7 @@ ghost use Prim.Native.Nat.{_+_, _-_, _*_, _≤_, _<_, min};
 ghost use lib.Dec.{leb};
 ghost use lib.ListN.{length, drop, getD, set, replicate};
 ghost use Rattle.headpass.specs.Passed.{passedAt, passedHead, passedLinks};
-ghost use Rattle.headpass.specs.Judge.{fits, near, later, nearestTo, laterTo, placeOf, holdsTo, spotted, differTo, windowFits, headFits, quietLinks};
+ghost use Rattle.headpass.specs.Judge.{fits, near, still, nearestTo, stillTo, placeOf, holdsTo, spotted, differTo, windowFits, headFits, quietLinks};
 ghost use Rattle.headpass.specs.Quiet.{headAt, untilCall};
 ghost use Rattle.headwords.specs.Head.{headWords};
 ghost use Rattle.headwords.specs.Table.{wordsAt};
@@ -120,31 +120,36 @@ fn nearest(links: &[u64], n: usize) -> u64
     m
 }
 
-// None of the timers that must run rings at the next tick.
-fn later(w: LinkWords) -> bool
-    ensures { λ r. ⌜ r ≡ later w ⌝ }
+// The words are a sound link's, and none of its timers rings at the next tick.
+fn still(w: LinkWords) -> bool
+    ensures { λ r. ⌜ r ≡ still w ⌝ }
 {
     if w.state == 2 {
-        return (2 <= w.watchdog) & (2 <= w.periodic);
+        return individual(w.address)
+            & (w.wait == 0)
+            & (2 <= w.watchdog)
+            & (w.watchdog <= WATCHDOG)
+            & (2 <= w.periodic)
+            & (w.periodic <= PERIODIC);
     }
     if w.state == 1 {
-        return 2 <= w.wait;
+        return individual(w.address)
+            & (2 <= w.wait)
+            & (w.wait <= WAIT)
+            & (w.watchdog == 0)
+            & (w.periodic == 0);
     }
-    true
+    (w.state == 0) & (w.address == 0) & (w.wait == 0) & (w.watchdog == 0) & (w.periodic == 0)
 }
 
-// The first n links are sound, and none of them rings at the next tick.
-fn all_later(links: &[u64], n: usize) -> bool
+fn all_still(links: &[u64], n: usize) -> bool
     requires { ⌜ 5 * n ≤ length (now links) ⌝ }
-    ensures { λ r. ⌜ r ≡ laterTo n (now (links .entry)) ⌝ }
+    ensures { λ r. ⌜ r ≡ stillTo n (now (links .entry)) ⌝ }
 {
     let mut i = 0;
     while i < n {
         let w = words_at(links, LINK * i);
-        if !fits(w) {
-            return false;
-        }
-        if !later(w) {
+        if !still(w) {
             return false;
         }
         i += 1;
@@ -295,7 +300,7 @@ pub fn is_quiet(head: &[u64], links: &[u64]) -> bool
     if n == 0 {
         return false;
     }
-    if !all_later(links, n) {
+    if !all_still(links, n) {
         return false;
     }
     if n == 1 {

@@ -40,8 +40,8 @@ returns-3 c =
       none-quiet (a .links .now) (n .links-in .result) (n .links-in .ensures) (c .if3 .taken),
     )
 
-all-later-requires : tie.Need-all-later-requires
-all-later-requires c κs =
+all-still-requires : tie.Need-all-still-requires
+all-still-requires c κs =
     let n = c .before in
     omega (arith, n .links-in .ensures, links-few (length (n .before .before .before .before .before .before .args .links .now)) .1)
 
@@ -52,7 +52,7 @@ returns-4 c =
     let f = n .before .before in
     let a = f .before .before .before .before .args in
     sym (ap (leb 1) (until-fits (a .head .now) (a .links .now) (f .before .if1 .left) (sym (f .head-fits .ensures) ∙ not-false _ (n .before .if2 .left)))
-    ∙ next-rings (a .links .now) (n .links-in .result) (n .links-in .ensures) (sym (l .all-later .ensures) ∙ not-true _ (c .if4 .taken)))
+    ∙ next-rings (a .links .now) (n .links-in .result) (n .links-in .ensures) (sym (l .all-still .ensures) ∙ not-true _ (c .if4 .taken)))
 
 returns-5 : tie.Need-returns-5
 returns-5 c =
@@ -61,7 +61,7 @@ returns-5 c =
     let f = n .before .before in
     let a = f .before .before .before .before .args in
     sym (ap (leb 1) (until-fits (a .head .now) (a .links .now) (f .before .if1 .left) (sym (f .head-fits .ensures) ∙ not-false _ (n .before .if2 .left)))
-    ∙ next-quiet (a .links .now) (n .links-in .result) (n .links-in .ensures) (l .before .if3 .left) (sym (l .all-later .ensures) ∙ not-false _ (c .before .if4 .left))
+    ∙ next-quiet (a .links .now) (n .links-in .result) (n .links-in .ensures) (l .before .if3 .left) (sym (l .all-still .ensures) ∙ not-false _ (c .before .if4 .left))
     ∙ differ-one (a .links .now) (n .links-in .result) (omega (arith, c .if5 .taken)))
 
 all-differ-requires : tie.Need-all-differ-requires
@@ -77,7 +77,7 @@ returns-6 c =
     let a = f .before .before .before .before .args in
     c .all-differ .ensures
     ∙ sym (ap (leb 1) (until-fits (a .head .now) (a .links .now) (f .before .if1 .left) (sym (f .head-fits .ensures) ∙ not-false _ (n .before .if2 .left)))
-    ∙ next-quiet (a .links .now) (n .links-in .result) (n .links-in .ensures) (l .before .if3 .left) (sym (l .all-later .ensures) ∙ not-false _ (c .before .before .if4 .left)))
+    ∙ next-quiet (a .links .now) (n .links-in .result) (n .links-in .ensures) (l .before .if3 .left) (sym (l .all-still .ensures) ∙ not-false _ (c .before .before .if4 .left)))
 
 pub is-quiet-spec : {M : Type 1} → statement M
 is-quiet-spec =
@@ -88,7 +88,7 @@ is-quiet-spec =
     returns-2
     links-in-requires
     returns-3
-    all-later-requires
+    all-still-requires
     returns-4
     returns-5
     all-differ-requires
