@@ -297,7 +297,8 @@ pub fn tick(head: &mut [u64], links: &mut [u64], out: &mut [u8], reply: &mut [u6
     if is_lent(head.len(), reply.len()) {
         if has_room(links.len(), out.len()) {
             if headpass::is_quiet(head, links) {
-                headpass::pass(head, links, 1);
+                headpass::pass_head(head, 1);
+                headpass::pass_links(links, 1);
                 tell_nothing(reply);
                 return 0;
             }
@@ -359,7 +360,8 @@ pub fn advance(
 {
     if is_lent(head.len(), reply.len()) & (1 <= made.len()) {
         if quiet_by(n, head, links, out.len()) {
-            headpass::pass(head, links, n as u32);
+            headpass::pass_head(head, n as u32);
+            headpass::pass_links(links, n);
             tell_nothing(reply);
             lay_made(n, made);
             return 0;

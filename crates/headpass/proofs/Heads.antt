@@ -1,27 +1,27 @@
 -- What the five words of a head say by themselves, and what stands there k ticks on.
 -- Assumes nothing.
-use Prim.Native.Nat.{ℕ, suc, _+_, _≤_, _<_, _%_, _^_, min}
+use Prim.Native.Nat.{ℕ, _+_, _≤_, _%_, _^_, min}
 use mathlib.Core.Path.{_≡_, refl, sym, ap, _∙_}
 use mathlib.Core.Bool.{Bool, true, false, cond, _&&_, and-eq-true-iff, false≢true}
-use mathlib.Core.List.{List, [], _∷_, _++_}
+use mathlib.Core.List.{List, [], _∷_}
 use native.Mathlib.Omega.{arith}
-use borrow.Author.Tests.{eq-eqb, ne-eqb, eqb-true, eqb-false, leb-true, le-leb, le-ltb}
-use lib.Dec.{eqb, leb, ltb}
-use lib.ListN.{length, take, drop, getD, set, replicate}
+use borrow.Author.Tests.{eq-eqb, eqb-true, leb-true, le-leb, le-ltb}
+use lib.Dec.{eqb, leb}
+use lib.ListN.{length, take, getD, set, replicate}
 use Rattle.clock.specs.Counts.{laterOf}
 use Rattle.clock.specs.Laws.{runs-in}
 use Rattle.clock.specs.Numbers.{furthest}
 use Rattle.clock.specs.Timers.{runs}
 use Rattle.fields.specs.Fields.{countOf}
 use Rattle.head.specs.Head.{soundOf, afterOf}
-use Rattle.head.specs.Window.{fits, longestWindow, soundWindow}
+use Rattle.head.specs.Window.{fits, longestWindow}
 use Rattle.head.specs.declared.Head.{Head}
 use Rattle.head.specs.declared.Window.{Window}
 use Rattle.head.specs.declared.Window.the-variants.{Idle, Before, Inside}
 use Rattle.headwords.specs.Head.{windowOf, headWords, headOf, isHead, nobody, headIn}
 use Rattle.range.specs.Fits.{isIndividual}
 use Rattle.words.specs.Laws.{laid-over, laid-whole, same-is}
-use Rattle.words.specs.Words.{laid, same}
+use Rattle.words.specs.Words.{laid}
 use Rattle.headpass.specs.Judge.{windowFits, headFits}
 use Rattle.headpass.specs.Passed.{passedHead}
 use Rattle.headpass.specs.Quiet.{headAt}

@@ -1,20 +1,16 @@
 -- What the words of a link say by themselves: which are a sound link's, and when it rings.
 -- Assumes nothing.
-use Prim.Native.Nat.{ℕ, suc, _-_, _≤_, _<_, min}
+use Prim.Native.Nat.{ℕ, suc, _≤_, min}
 use mathlib.Core.Path.{_≡_, refl, sym, ap, _∙_}
 use mathlib.Core.Bool.{Bool, true, false, cond, _&&_, and-eq-true-iff, false≢true}
 use mathlib.Core.List.{List}
-use mathlib.Core.Logic.{⊎-elim}
 use native.Mathlib.Omega.{arith}
-use borrow.Author.Tests.{eq-eqb, ne-eqb, eqb-true, eqb-false, leb-true, le-leb, ltb-true, lt-ltb, le-ltb}
+use borrow.Author.Tests.{eq-eqb, eqb-true, leb-true, le-leb, le-ltb}
 use lib.Dec.{eqb, leb, ltb}
 use lib.ListN.{getD}
-use Rattle.laws.specs.Cases.{decided}
 use Rattle.clock.specs.Laws.{runs-in, runs-of, quiet-off, quiet-on}
 use Rattle.clock.specs.Numbers.{watchdog, periodic, wait}
 use Rattle.clock.specs.Timers.{off, runs}
-use Rattle.fields.specs.Fields.{timerOf}
-use Rattle.frame.specs.declared.Address.{Address}
 use Rattle.headwords.specs.Table.{stateWord, stateOf, linkWords, linkOf, five, isLink, noLink, linkIn}
 use Rattle.headwords.specs.declared.LinkWords.{LinkWords}
 use Rattle.links.specs.Link.{isHeld}
@@ -24,7 +20,6 @@ use Rattle.links.specs.declared.Link.{Link}
 use Rattle.links.specs.declared.State.{State}
 use Rattle.links.specs.declared.State.the-variants.{Idle, Waiting, Registered}
 use Rattle.range.specs.Fits.{isIndividual}
-use Rattle.survey.specs.Facts.{holds}
 use Rattle.words.specs.Laws.{same-is}
 use Rattle.words.specs.Words.{same}
 use Rattle.headpass.specs.Judge.{fits, near, behind}

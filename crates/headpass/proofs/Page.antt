@@ -1,15 +1,15 @@
 -- What the loops find is what `Quiet` says of the links that the words tell.
 -- Assumes nothing.
-use Prim.Native.Nat.{ℕ, zero, suc, _+_, _-_, _*_, _≤_, _<_, min}
+use Prim.Native.Nat.{ℕ, zero, suc, _-_, _*_, _≤_, _<_, min}
 use mathlib.Core.Path.{_≡_, refl, sym, ap, _∙_}
 use mathlib.Core.Bool.{Bool, true, false, cond, not, _&&_, _||_, and-eq-true-iff, false≢true}
 use mathlib.Core.List.{List, [], _∷_, _++_}
 use mathlib.Core.Logic.{⊎-elim}
 use native.Mathlib.Omega.{arith}
 use native.Mathlib.Nat.{add-zero}
-use borrow.Author.Tests.{eq-eqb, ne-eqb, eqb-true, eqb-false, ltb-true, ltb-false, lt-ltb, le-ltb, le-leb, lt-leb, leb-true, leb-false}
+use borrow.Author.Tests.{eq-eqb, ne-eqb, eqb-true, eqb-false, ltb-true, lt-ltb, le-ltb, le-leb, lt-leb, leb-true, leb-false}
 use lib.Dec.{eqb, leb, ltb}
-use lib.ListN.{length, drop, getD}
+use lib.ListN.{length}
 use lib.Seq.{getD-drop}
 use Rattle.laws.specs.Cases.{cut}
 use Rattle.clock.specs.Numbers.{furthestAdvance, watchdog, periodic, wait}
@@ -22,8 +22,12 @@ use Rattle.links.specs.Pass.{quietOf}
 use Rattle.links.specs.Sound.{soundOf}
 use Rattle.links.specs.declared.Link.{Link}
 use Rattle.survey.specs.Facts.{isFew, holds, anyHolds, allSound, different, soundTable, quietAll}
+<<<<<<< HEAD
 use Rattle.range.specs.Fits.{isIndividual}
 use Rattle.headpass.specs.Judge.{fits, near, still, behind, linkWordsAt, addressAt, nearestTo, stillTo, holdsTo, repeatsAt, differTo, quietLinks}
+=======
+use Rattle.headpass.specs.Judge.{fits, near, later, behind, linkWordsAt, addressAt, nearestTo, laterTo, holdsTo, differTo, quietLinks}
+>>>>>>> 75eb881c2302664fabe9c5bfeadd4840c4c9670b
 use Rattle.headpass.proofs.Links.{Sounds, sounds, sound-fits}
 
 -- ---- one link more at the end of a table

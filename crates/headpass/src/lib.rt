@@ -327,7 +327,8 @@ fn pass_at(links: &mut [u64], at: usize, k: u64)
     links[at + 4] = less(links[at + 4], k);
 }
 
-fn pass_links(links: &mut [u64], k: u64)
+// The links k ticks on, none of which rings: each timer that runs has k less.
+pub fn pass_links(links: &mut [u64], k: u64)
     ensures { λ _. ⌜ now (links .exit) ≡ passedLinks (now (links .entry)) k ⌝ }
 {
     let n = headwords::links_in(links.len());
@@ -356,8 +357,8 @@ fn pass_window(head: &mut [u64], k: u32)
     words::lay(&w, head);
 }
 
-// Of a head whose window is idle only the count moves.
-fn pass_head(head: &mut [u64], k: u32)
+// The head k ticks on. Where its window is idle only the count moves.
+pub fn pass_head(head: &mut [u64], k: u32)
     ensures { λ _. ⌜ now (head .exit) ≡ passedHead (now (head .entry)) k ⌝ }
 {
     if head.len() < HEAD {
@@ -370,12 +371,4 @@ fn pass_head(head: &mut [u64], k: u32)
         return;
     }
     pass_window(head, k);
-}
-
-// k ticks on, none of which hands out anything: each timer that runs has k less.
-pub fn pass(head: &mut [u64], links: &mut [u64], k: u32)
-    ensures { λ _. ⌜ (now (head .exit) ≡ passedHead (now (head .entry)) k) × (now (links .exit) ≡ passedLinks (now (links .entry)) k) ⌝ }
-{
-    pass_head(head, k);
-    pass_links(links, k as u64);
 }

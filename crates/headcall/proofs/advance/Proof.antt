@@ -16,14 +16,17 @@ is-lent-requires c κs = search needs
 quiet-by-requires : tie.Need-quiet-by-requires
 quiet-by-requires c κs = search needs
 
-cast-pass : tie.Need-cast-pass
-cast-pass c =
-    let s = c .before .before .before .before .before .before .before .before .before .before .before .before .before in
-    let q = quiet-parts (s .args .n) (s .args .head .now) (s .args .links .now) (length (s .args .out .now)) (sym (c .before .before .before .quiet-by .ensures) ∙ c .before .before .if2 .taken) in
+cast-pass-head : tie.Need-cast-pass-head
+cast-pass-head c =
+    let s = c .before .before .before .before .before .before .before .before .before .before .before .before in
+    let q = quiet-parts (s .args .n) (s .args .head .now) (s .args .links .now) (length (s .args .out .now)) (sym (c .before .before .quiet-by .ensures) ∙ c .before .if2 .taken) in
     omega (arith, reach-parts (s .args .n) (q .0) .1)
 
-pass-requires : tie.Need-pass-requires
-pass-requires c κs = search needs
+pass-head-requires : tie.Need-pass-head-requires
+pass-head-requires c κs = search needs
+
+pass-links-requires : tie.Need-pass-links-requires
+pass-links-requires c κs = search needs
 
 tell-nothing-requires : tie.Need-tell-nothing-requires
 tell-nothing-requires c κs = search needs
@@ -45,11 +48,12 @@ same-length-4 c = search needs
 
 returns : tie.Need-returns
 returns c =
-    let a = c .before .before .before .before .before .before .before .before .before .before .before .before .before .before .before .before .before .before .before .before .before .before .before .before .before .before .args in
-    let p = c .before .before .before .before .before .before .before .before .before .before .before .before .pass .ensures in
-    let l = c .before .before .before .before .before .before .before .before .before .before .before .before .before .before .before .before .before .before .before in
+    let a = c .before .before .before .before .before .before .before .before .before .before .before .before .before .before .before .before .before .before .before .before .before .before .before .before .before .before .before .args in
+    let l = c .before .before .before .before .before .before .before .before .before .before .before .before .before .before .before .before .before .before .before .before in
     advance-passed (a .n) (a .head .now) (a .links .now) (a .out .now) (a .reply .now) (a .made .now) _ _ _ _
-    (sym (c .before .before .before .before .before .before .before .before .before .before .before .before .before .before .before .before .quiet-by .ensures) ∙ c .before .before .before .before .before .before .before .before .before .before .before .before .before .before .before .if2 .taken) (p .0) (p .1)
+    (sym (c .before .before .before .before .before .before .before .before .before .before .before .before .before .before .before .before .before .quiet-by .ensures) ∙ c .before .before .before .before .before .before .before .before .before .before .before .before .before .before .before .before .if2 .taken)
+    (c .before .before .before .before .before .before .before .before .before .before .before .before .before .before .pass-head .ensures)
+    (c .before .before .before .before .before .before .before .before .before .before .pass-links .ensures)
     (c .before .before .before .before .before .before .tell-nothing .ensures)
     (c .before .before .lay-made .ensures)
     (rw (← l .before .is-lent .ensures) (l .if1 .taken))
@@ -88,8 +92,9 @@ advance-spec =
     (tie.spec
     is-lent-requires
     quiet-by-requires
-    cast-pass
-    pass-requires
+    cast-pass-head
+    pass-head-requires
+    pass-links-requires
     tell-nothing-requires
     lay-made-requires
     same-length

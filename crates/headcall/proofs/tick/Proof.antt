@@ -16,8 +16,11 @@ has-room-requires c κs = search needs
 is-quiet-requires : tie.Need-is-quiet-requires
 is-quiet-requires c κs = search needs
 
-pass-requires : tie.Need-pass-requires
-pass-requires c κs = search needs
+pass-head-requires : tie.Need-pass-head-requires
+pass-head-requires c κs = search needs
+
+pass-links-requires : tie.Need-pass-links-requires
+pass-links-requires c κs = search needs
 
 tell-nothing-requires : tie.Need-tell-nothing-requires
 tell-nothing-requires c κs = search needs
@@ -33,12 +36,13 @@ same-length-3 c = search needs
 
 returns : tie.Need-returns
 returns c =
-    let a = c .before .before .before .before .before .before .before .before .before .before .before .before .before .before .before .before .before .before .before .before .before .before .before .args in
-    let p = c .before .before .before .before .before .before .before .before .pass .ensures in
-    ticked-by (a .head .now) (a .links .now) (a .out .now) (sym (c .before .before .before .before .before .before .before .before .before .before .before .before .before .before .before .before .has-room .ensures) ∙ c .before .before .before .before .before .before .before .before .before .before .before .before .before .before .before .if2 .taken)
-    (leb-true 1 _ (sym (c .before .before .before .before .before .before .before .before .before .before .before .before .is-quiet .ensures) ∙ c .before .before .before .before .before .before .before .before .before .before .before .if3 .taken)) (a .reply .now) _ _ _ (p .0) (p .1)
+    let a = c .before .before .before .before .before .before .before .before .before .before .before .before .before .before .before .before .before .before .before .before .before .before .before .before .args in
+    ticked-by (a .head .now) (a .links .now) (a .out .now) (sym (c .before .before .before .before .before .before .before .before .before .before .before .before .before .before .before .before .before .has-room .ensures) ∙ c .before .before .before .before .before .before .before .before .before .before .before .before .before .before .before .before .if2 .taken)
+    (leb-true 1 _ (sym (c .before .before .before .before .before .before .before .before .before .before .before .before .before .is-quiet .ensures) ∙ c .before .before .before .before .before .before .before .before .before .before .before .before .if3 .taken)) (a .reply .now) _ _ _
+    (c .before .before .before .before .before .before .before .before .before .before .pass-head .ensures)
+    (c .before .before .before .before .before .before .pass-links .ensures)
     (c .before .before .tell-nothing .ensures)
-    (sym (c .before .before .before .before .before .before .before .before .before .before .before .before .before .before .before .before .before .before .is-lent .ensures) ∙ c .before .before .before .before .before .before .before .before .before .before .before .before .before .before .before .before .before .if1 .taken)
+    (sym (c .before .before .before .before .before .before .before .before .before .before .before .before .before .before .before .before .before .before .before .is-lent .ensures) ∙ c .before .before .before .before .before .before .before .before .before .before .before .before .before .before .before .before .before .before .if1 .taken)
 
 served-requires : tie.Need-served-requires
 served-requires c κs = search needs
@@ -65,7 +69,8 @@ tick-spec =
     is-lent-requires
     has-room-requires
     is-quiet-requires
-    pass-requires
+    pass-head-requires
+    pass-links-requires
     tell-nothing-requires
     same-length
     same-length-2

@@ -1,7 +1,7 @@
 -- `headpass::holds` meets its promise.
 -- Assumes nothing.
 use Rattle.headpass.proofs.Turns.{holds-found, short-of}
-use Rattle.headpass.specs.Judge.{addressAt, holdsTo}
+use Rattle.headpass.specs.Judge.{holdsTo}
 use Rattle.laws.specs.Cases.{cut}
 use borrow.Author.Tests.{ne-eqb, lt-ltb, le-ltb}
 use borrow.Author.Needs.{needs}
@@ -10,7 +10,7 @@ use native.Mathlib.Omega.{arith}
 use mathlib.Core.Logic.{⊎-elim}
 use mathlib.Core.Bool.{false}
 use mathlib.Core.Path.{_≡_, refl, sym, _∙_, ap}
-use Prim.Native.Nat.{ℕ, suc, _*_, _-_, _≤_, _<_}
+use Prim.Native.Nat.{ℕ, _-_, _≤_, _<_}
 use Rattle.headpass.proofs.holds.Statement.{statement}
 use Rattle.headpass.proofs.holds.Tie as tie
 

@@ -7,7 +7,7 @@ use borrow.Author.Needs.{needs}
 use native.Mathlib.Numerals.{add-one}
 use native.Mathlib.Omega.{arith}
 use mathlib.Core.Path.{_≡_, refl, sym, _∙_, ap}
-use Prim.Native.Nat.{_*_, _-_, _≤_}
+use Prim.Native.Nat.{_-_, _≤_}
 use Rattle.headpass.proofs.nearest.Statement.{statement}
 use Rattle.headpass.proofs.nearest.Tie as tie
 
