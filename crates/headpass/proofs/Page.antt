@@ -22,12 +22,8 @@ use Rattle.links.specs.Pass.{quietOf}
 use Rattle.links.specs.Sound.{soundOf}
 use Rattle.links.specs.declared.Link.{Link}
 use Rattle.survey.specs.Facts.{isFew, holds, anyHolds, allSound, different, soundTable, quietAll}
-<<<<<<< HEAD
 use Rattle.range.specs.Fits.{isIndividual}
-use Rattle.headpass.specs.Judge.{fits, near, still, behind, linkWordsAt, addressAt, nearestTo, stillTo, holdsTo, repeatsAt, differTo, quietLinks}
-=======
-use Rattle.headpass.specs.Judge.{fits, near, later, behind, linkWordsAt, addressAt, nearestTo, laterTo, holdsTo, differTo, quietLinks}
->>>>>>> 75eb881c2302664fabe9c5bfeadd4840c4c9670b
+use Rattle.headpass.specs.Judge.{fits, near, still, behind, linkWordsAt, addressAt, nearestTo, stillTo, holdsTo, differTo, quietLinks}
 use Rattle.headpass.proofs.Links.{Sounds, sounds, sound-fits}
 
 -- ---- one link more at the end of a table
