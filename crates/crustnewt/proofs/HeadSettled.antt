@@ -1,9 +1,10 @@
 -- Every promise of the head's calls settles the whole answer, and what then stands in the caller's memory.
 -- Assumes nothing.
+use mathlib.Core.Path.{sym, _∙_}
 use denote.Ref.{now}
-use Rattle.laws.specs.Settles.{SettlesLent}
-use Rattle.headcall.specs.Calls.{left, begunLeft}
-use Rattle.headcall.proofs.Settled.{call-settles, fresh-settles}
+use Rattle.laws.specs.Settles.{Settles, SettlesLent}
+use Rattle.headcall.specs.Calls.{left, begunLeft, advanceLeft}
+use Rattle.headcall.proofs.Settled.{call-settles, fresh-settles, advanced-settles}
 use Rattle.crustnewt.proofs.crustnewt_head_admit.Kinds as admit-kinds
 use Rattle.crustnewt.proofs.crustnewt_head_admit.Reads as admit
 use Rattle.crustnewt.proofs.crustnewt_head_deregister.Kinds as deregister-kinds
@@ -22,6 +23,10 @@ use Rattle.crustnewt.proofs.crustnewt_head_reregister.Kinds as reregist
 use Rattle.crustnewt.proofs.crustnewt_head_reregister.Reads as reregister
 use Rattle.crustnewt.proofs.crustnewt_head_tick.Kinds as tick-kinds
 use Rattle.crustnewt.proofs.crustnewt_head_tick.Reads as tick
+use Rattle.crustnewt.proofs.crustnewt_head_advance.Kinds as advance-kinds
+use Rattle.crustnewt.proofs.crustnewt_head_advance.Reads as advance
+use Rattle.crustnewt.proofs.crustnewt_head_ticks_until.Kinds as until-kinds
+use Rattle.crustnewt.proofs.crustnewt_head_ticks_until.Reads as until
 
 pub head-fresh-settles : SettlesLent 3 fresh-kinds.ps fresh-kinds.r (λ κs e. begunLeft 0 (now (e .1 .0)) (now (e .1 .1 .0)) (now (e .1 .1 .1 .0))) fresh.Post
 head-fresh-settles κs a e f x y p q = fresh-settles _ x y _ _ _ _ _ _ p q
@@ -57,3 +62,10 @@ head-hear-settles κs a e f x y p q = call-settles _ x y _ _ _ _ _ _ _ _ p q
 pub head-tick-settles : SettlesLent 4 tick-kinds.ps tick-kinds.r
     (λ κs e. left 0 (now (e .0)) (now (e .1 .0)) (now (e .1 .1 .0)) (now (e .1 .1 .1 .0))) tick.Post
 head-tick-settles κs a e f x y p q = call-settles _ x y _ _ _ _ _ _ _ _ p q
+
+pub head-advance-settles : SettlesLent 5 advance-kinds.ps advance-kinds.r
+    (λ κs e. advanceLeft (left 0 (now (e .1 .0)) (now (e .1 .1 .0)) (now (e .1 .1 .1 .0)) (now (e .1 .1 .1 .1 .0))) (now (e .1 .1 .1 .1 .1 .0))) advance.Post
+head-advance-settles κs a e f x y p q = advanced-settles _ x y _ _ _ _ _ _ _ _ _ _ p q
+
+pub head-ticks-until-settles : Settles 2 until-kinds.ps until-kinds.r until.Post
+head-ticks-until-settles κs a e x y p q = p ∙ sym q

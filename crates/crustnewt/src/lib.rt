@@ -5,7 +5,8 @@ ghost use Rattle.boxpass.specs.Block.{untilCall};
 ghost use Rattle.frameread.specs.Read.{readLeft, readCall};
 ghost use Rattle.framewrite.specs.Write.{writeLeft, writeCall};
 ghost use Rattle.floorbox.specs.Box.{registerOf, deregisterOf, tickOf};
-ghost use Rattle.headcall.specs.Calls.{left as headLeft, begunLeft, servedOf, heardOf as headHeard, begunOf};
+ghost use Rattle.headcall.specs.Calls.{left as headLeft, begunLeft, servedOf, heardOf as headHeard, begunOf, advanceLeft as headAdvanceLeft, advanceCall as headAdvance};
+ghost use Rattle.headpass.specs.Quiet.{untilCall as headUntil};
 ghost use Rattle.headcall.specs.Gate.{askedOf};
 ghost use Rattle.judging.specs.declared.Request.{Request as Requested};
 use clock::Count;
@@ -295,5 +296,28 @@ pub extern "C" fn crustnewt_head_tick(
 ) -> u8
     ensures { λ r. ⌜ headLeft r (now (head .exit)) (now (links .exit)) (now (output .exit)) (now (reply .exit)) ≡ servedOf Requested.Tick (now (head .entry)) (now (links .entry)) (now (output .entry)) (now (reply .entry)) ⌝ }
 {
-    headcall::served(Request::Tick, head, links, output, reply)
+    headcall::tick(head, links, output, reply)
+}
+
+// Quanta have passed: ticks until so many are made or one hands out a frame, and how many were made.
+#[no_mangle]
+pub extern "C" fn crustnewt_head_advance(
+    ticks: u64,
+    head: &mut [u64],
+    links: &mut [u64],
+    output: &mut [u8],
+    reply: &mut [u64],
+    made: &mut [u64],
+) -> u8
+    ensures { λ r. ⌜ headAdvanceLeft (headLeft r (now (head .exit)) (now (links .exit)) (now (output .exit)) (now (reply .exit))) (now (made .exit)) ≡ headAdvance ticks (now (head .entry)) (now (links .entry)) (now (output .entry)) (now (reply .entry)) (now (made .entry)) ⌝ }
+{
+    headcall::advance(ticks, head, links, output, reply, made)
+}
+
+// How many ticks from now hand out nothing.
+#[no_mangle]
+pub extern "C" fn crustnewt_head_ticks_until(head: &[u64], links: &[u64]) -> u64
+    ensures { λ r. ⌜ r ≡ headUntil (now (head .entry)) (now (links .entry)) ⌝ }
+{
+    headcall::ticks_until(head, links)
 }

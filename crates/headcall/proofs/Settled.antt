@@ -5,7 +5,9 @@ use mathlib.Core.Path.{_≡_, sym, ap, _∙_}
 use mathlib.Core.List.{List}
 use denote.Ref.{now}
 use Rattle.laws.specs.Settles.{Settles, SettlesLent}
-use Rattle.headcall.specs.Calls.{Left, left, BegunLeft, begunLeft}
+use Rattle.headcall.specs.Calls.{Left, left, BegunLeft, begunLeft, AdvanceLeft, advanceLeft}
+use Rattle.headcall.proofs.advance.Kinds as advance-kinds
+use Rattle.headcall.proofs.advance.Reads as advance
 use Rattle.headcall.proofs.asked.Kinds as asked-kinds
 use Rattle.headcall.proofs.asked.Reads as asked
 use Rattle.headcall.proofs.begun.Kinds as begun-kinds
@@ -14,6 +16,10 @@ use Rattle.headcall.proofs.heard.Kinds as heard-kinds
 use Rattle.headcall.proofs.heard.Reads as heard
 use Rattle.headcall.proofs.served.Kinds as served-kinds
 use Rattle.headcall.proofs.served.Reads as served
+use Rattle.headcall.proofs.tick.Kinds as tick-kinds
+use Rattle.headcall.proofs.tick.Reads as tick
+use Rattle.headcall.proofs.ticks_until.Kinds as until-kinds
+use Rattle.headcall.proofs.ticks_until.Reads as until
 
 -- number and memory, whatever the core's call
 pub call-settles : (l : Left) (x y : ℕ) (h i k m o u r s : List ℕ) → left x h k o r ≡ l → left y i m u s ≡ l
@@ -30,6 +36,13 @@ fresh-settles l x y h i k m r s p q = (
   ap (λ (t : BegunLeft). begunLeft 0 (t .head) (t .links) (t .reply)) (p ∙ sym q),
 )
 
+pub advanced-settles : (l : AdvanceLeft) (x y : ℕ) (h i k m o u r s v w : List ℕ) → advanceLeft (left x h k o r) v ≡ l → advanceLeft (left y i m u s) w ≡ l
+    → (x ≡ y) × (advanceLeft (left 0 h k o r) v ≡ advanceLeft (left 0 i m u s) w)
+advanced-settles l x y h i k m o u r s v w p q = (
+  ap (λ (t : AdvanceLeft). t .call .number) (p ∙ sym q),
+  ap (λ (t : AdvanceLeft). advanceLeft (left 0 (t .call .head) (t .call .links) (t .call .output) (t .call .reply)) (t .made)) (p ∙ sym q),
+)
+
 pub served-settles : SettlesLent 4 served-kinds.ps served-kinds.r
     (λ κs e. left 0 (now (e .1 .0)) (now (e .1 .1 .0)) (now (e .1 .1 .1 .0)) (now (e .1 .1 .1 .1 .0))) served.Post
 served-settles κs a e f x y p q = call-settles _ x y _ _ _ _ _ _ _ _ p q
@@ -44,3 +57,14 @@ begun-settles κs a e f x y p q = fresh-settles _ x y _ _ _ _ _ _ p q
 
 pub asked-settles : Settles 1 asked-kinds.ps asked-kinds.r asked.Post
 asked-settles κs a e x y p q = p ∙ sym q
+
+pub tick-settles : SettlesLent 4 tick-kinds.ps tick-kinds.r
+    (λ κs e. left 0 (now (e .0)) (now (e .1 .0)) (now (e .1 .1 .0)) (now (e .1 .1 .1 .0))) tick.Post
+tick-settles κs a e f x y p q = call-settles _ x y _ _ _ _ _ _ _ _ p q
+
+pub advance-settles : SettlesLent 5 advance-kinds.ps advance-kinds.r
+    (λ κs e. advanceLeft (left 0 (now (e .1 .0)) (now (e .1 .1 .0)) (now (e .1 .1 .1 .0)) (now (e .1 .1 .1 .1 .0))) (now (e .1 .1 .1 .1 .1 .0))) advance.Post
+advance-settles κs a e f x y p q = advanced-settles _ x y _ _ _ _ _ _ _ _ _ _ p q
+
+pub ticks-until-settles : Settles 2 until-kinds.ps until-kinds.r until.Post
+ticks-until-settles κs a e x y p q = p ∙ sym q

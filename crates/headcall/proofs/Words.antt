@@ -2,19 +2,30 @@
 -- Assumes nothing.
 use Prim.Native.Nat.{ℕ, zero, suc, _*_, _/_, _≤_, min}
 use mathlib.Core.Path.{_≡_, refl, sym, ap, _∙_}
-use mathlib.Core.Bool.{Bool, true, false, cond}
+use mathlib.Core.Bool.{Bool, true, false, cond, _&&_, false≢true}
 use mathlib.Core.List.{List, [], _∷_, _++_, append-nil}
 use native.Mathlib.Omega.{arith}
 use native.Mathlib.Nat.{le-refl, not-suc-le-zero, le-of-suc-le-suc}
-use lib.Dec.{eqb}
+use borrow.Author.Tests.{leb-true}
+use lib.Dec.{eqb, leb}
 use lib.ListN.{length, take, drop, replicate, length-replicate, drop-of-length-le}
 use lib.Seq.{take-length}
+use Rattle.clock.specs.Laws.{reach-parts}
+use Rattle.clock.specs.Numbers.{inReach}
 use Rattle.frame.specs.Card.{numberOf}
 use Rattle.frame.specs.declared.Address.{Address}
+use Rattle.head.specs.Head.{afterOf}
 use Rattle.head.specs.declared.Head.{Head}
+use Rattle.headlaws.specs.Advance.{Ready, quiet-tick, quiet-advance}
+use Rattle.headlaws.specs.Advanced.{stillAt, withMade}
+use Rattle.headlaws.specs.Passing.{passedAll}
+use Rattle.headpass.specs.Passed.{passedHead, passedLinks}
+use Rattle.headpass.specs.Quiet.{headAt, untilCall}
+use Rattle.headpass.proofs.Passing.{quietly, pass-leaves}
 use Rattle.headwords.specs.Laws.{links-few, length-links, length-table}
 use Rattle.headwords.specs.Table.{tableWords, linksOf, linksIn, linksAt, roomOf, loaded, stored}
-use Rattle.headwords.specs.Told.{toldWords}
+use Rattle.headwords.specs.Told.{toldWords, noticeWords}
+use Rattle.judging.specs.Judge.{hasRoom}
 use Rattle.judging.specs.declared.Request.{Request}
 use Rattle.lent.specs.Folds.{places}
 use Rattle.lent.proofs.Folds.{up-all, up-length}
@@ -27,7 +38,7 @@ use Rattle.serving.specs.Serve.{Served, doneOf, serveOf}
 use Rattle.serving.specs.declared.Answer.{Answer}
 use Rattle.words.specs.Laws.{laid-over}
 use Rattle.words.specs.Words.{laid}
-use Rattle.headcall.specs.Calls.{left, begunLeft, Told, told, headAt, isLent, keptHead, keptLinks, begunHead, toldOf, handed, servedOf, refusedOf, heardOf, cleared, begunOf as begun}
+use Rattle.headcall.specs.Calls.{Left, left, AnswerLeft, answerLeft, begunLeft, advanceLeft, Told, told, isLent, laidHead, keptHead, keptLinks, begunHead, toldOf, answeredOf, handed, servedOf, advancedOf, advanceCall, quietBy, refusedOf, heardOf, cleared, begunOf as begun}
 use Rattle.headcall.specs.Lend.{keptOf, LendLeft, lendLeft, lendOf, ClearLeft, clearLeft, clearOf}
 
 length-places : (f : ℕ → Link → Link) (k : ℕ) (xs : List Link) → length (places f k xs) ≡ length xs
@@ -128,21 +139,103 @@ cleared-is a ws xs e =
     ap (clearLeft (made .answer)) (kept-laid (made .answer) (made .table) (length xs) ws (length-cleared a xs ∙ e) e)
     ∙ fresh-alike a ws xs (linksAt ws) (e ∙ sym (length-links (linksIn (length ws)) ws))
 
--- the whole call, of what each step of it left
-pub served-whole : (r : Request) (head links output reply : List ℕ) (t : Bool) (h : Head) (n : ℕ) (a : Answer) (head′ links′ output′ reply′ : List ℕ) (k : ℕ)
-    → t ≡ isLent (length head) (length reply) → t ≡ true → h ≡ headAt head → n ≡ linksIn (length links)
-    → lendLeft a links′ output′ ≡ lendOf h links (replicate n idle) r output → head′ ≡ keptHead a head → told k reply′ ≡ toldOf a reply
-    → left k head′ links′ output′ reply′ ≡ servedOf r head links output reply
-unfolding servedOf handed toldOf
-served-whole r head links output reply t h n a head′ links′ output′ reply′ k lent taken at few said keeps tells =
+-- the core's call, of what each step of it left
+pub answered-whole : (r : Request) (head links output : List ℕ) (h : Head) (n : ℕ) (a : Answer) (head′ links′ output′ : List ℕ)
+    → h ≡ headAt head → n ≡ linksIn (length links)
+    → lendLeft a links′ output′ ≡ lendOf h links (replicate n idle) r output → head′ ≡ keptHead a head
+    → answerLeft a head′ links′ output′ ≡ answeredOf r head links output
+unfolding answeredOf
+answered-whole r head links output h n a head′ links′ output′ at few said keeps =
     let done : Served = serveOf (headAt head) (linksAt links) r output in
     let whole : lendLeft a links′ output′ ≡ lendLeft (done .answer) (keptLinks (done .answer) (done .table) links) (done .octets) =
     said ∙ ap (λ (y : Head). lendOf y links (replicate n idle) r output) at
     ∙ lent-is (headAt head) links (replicate n idle) r output (length-replicate n idle ∙ few) in
+    ap (λ (us : List ℕ). answerLeft a us links′ output′) keeps
+    ∙ ap (λ (u : LendLeft). answerLeft (u .answer) (keptHead (u .answer) head) (u .words) (u .octets)) whole
+
+-- and what is told of it
+told-whole : (r : Request) (head links output reply : List ℕ) (a : Answer) (head′ links′ output′ reply′ : List ℕ) (k : ℕ)
+    → answerLeft a head′ links′ output′ ≡ answeredOf r head links output → told k reply′ ≡ toldOf a reply
+    → left k head′ links′ output′ reply′ ≡ handed (serveOf (headAt head) (linksAt links) r output) head links reply
+unfolding answeredOf handed toldOf
+told-whole r head links output reply a head′ links′ output′ reply′ k said tells =
     ap (λ (u : Told). left (u .number) head′ links′ output′ (u .reply)) tells
-    ∙ ap (λ (us : List ℕ). left (numberOf (a .reply)) us links′ output′ (laid (toldWords a) reply)) keeps
-    ∙ ap (λ (u : LendLeft). left (numberOf (u .answer .reply)) (keptHead (u .answer) head) (u .words) (u .octets) (laid (toldWords (u .answer)) reply)) whole
-    ∙ ap (λ (b : Bool). cond b (handed done head links reply) (left 100 head links output reply)) (sym taken ∙ lent)
+    ∙ ap (λ (u : AnswerLeft). left (numberOf (u .answer .reply)) (u .head) (u .links) (u .output) (laid (toldWords (u .answer)) reply)) said
+
+pub served-whole : (r : Request) (head links output reply : List ℕ) (t : Bool) (a : Answer) (head′ links′ output′ reply′ : List ℕ) (k : ℕ)
+    → t ≡ isLent (length head) (length reply) → t ≡ true
+    → answerLeft a head′ links′ output′ ≡ answeredOf r head links output → told k reply′ ≡ toldOf a reply
+    → left k head′ links′ output′ reply′ ≡ servedOf r head links output reply
+unfolding servedOf
+served-whole r head links output reply t a head′ links′ output′ reply′ k lent taken said tells =
+    told-whole r head links output reply a head′ links′ output′ reply′ k said tells
+    ∙ ap (λ (b : Bool). cond b (handed (serveOf (headAt head) (linksAt links) r output) head links reply) (left 100 head links output reply)) (sym taken ∙ lent)
+
+pub advanced-whole : (n : ℕ) (head links output reply made : List ℕ) (a : Answer) (head′ links′ output′ reply′ made′ : List ℕ) (k : ℕ)
+    → answerLeft a head′ links′ output′ ≡ answeredOf (Request.Advance n) head links output → told k reply′ ≡ toldOf a reply
+    → made′ ≡ laid (a .made ∷ []) made
+    → advanceLeft (left k head′ links′ output′ reply′) made′ ≡ advancedOf n head links output reply made
+unfolding advancedOf answeredOf
+advanced-whole n head links output reply made a head′ links′ output′ reply′ made′ k said tells makes =
+    let done : Served = serveOf (headAt head) (linksAt links) (Request.Advance n) output in
+    ap (λ (l : Left). advanceLeft l made′) (told-whole (Request.Advance n) head links output reply a head′ links′ output′ reply′ k said tells)
+    ∙ ap (advanceLeft (handed done head links reply)) (makes ∙ ap (λ (u : AnswerLeft). laid (u .answer .made ∷ []) made) said)
+
+-- ---- quiet ticks, passed in place
+module _ (head links output : List ℕ) (room : hasRoom (linksIn (length links)) (length output) ≡ true) where
+  ready : 1 ≤ untilCall head links → Ready (stillAt (headAt head) (linksAt links) output)
+  ready h =
+      let q = quietly head links h in
+      record { sound = record { head = q .sound; table = q .table }; room = rw (length-links (linksIn (length links)) links) room }
+
+  -- what is left of them
+  module _ (k : ℕ) (lo : 1 ≤ k) (hi : k ≤ untilCall head links) (reply head′ links′ reply′ : List ℕ)
+      (heads : head′ ≡ passedHead head k) (tables : links′ ≡ passedLinks links k) (tells : reply′ ≡ laid (replicate 2 0) reply) where
+    still : left 0 head′ links′ output reply′
+        ≡ handed (stillAt (afterOf (headAt head) k) (passedAll (linksAt links) k) output) head links reply
+    unfolding handed keptHead laidHead keptLinks toldWords noticeWords
+    still =
+        let p = pass-leaves head links k lo hi in
+        rw (heads, tables, tells, p .0, p .1)
+
+    pub passed-by : inReach k ≡ true → (made made′ : List ℕ) → made′ ≡ laid (k ∷ []) made
+        → advanceLeft (left 0 head′ links′ output reply′) made′ ≡ advancedOf k head links output reply made
+    unfolding advancedOf handed keptHead keptLinks laidHead toldWords
+    passed-by reach made made′ makes =
+        let q = quietly head links (omega (arith, lo, hi)) in
+        let e : serveOf (headAt head) (linksAt links) (Request.Advance k) output ≡ withMade k (stillAt (afterOf (headAt head) k) (passedAll (linksAt links) k) output) =
+        quiet-advance (headAt head) (linksAt links) output (ready (omega (arith, lo, hi))) k reach (omega (arith, hi, q .until)) in
+        rw (e, makes) (ap (λ (l : Left). advanceLeft l (laid (k ∷ []) made)) still)
+
+  pub ticked-by : 1 ≤ untilCall head links → (reply head′ links′ reply′ : List ℕ)
+      → head′ ≡ passedHead head 1 → links′ ≡ passedLinks links 1 → reply′ ≡ laid (replicate 2 0) reply → isLent (length head) (length reply) ≡ true
+      → left 0 head′ links′ output reply′ ≡ servedOf Request.Tick head links output reply
+  unfolding servedOf
+  ticked-by h reply head′ links′ reply′ heads tables tells lent =
+      let q = quietly head links h in
+      rw (lent, quiet-tick (headAt head) (linksAt links) output (ready h) (omega (arith, h, q .until)))
+      (still 1 (omega arith) h reply head′ links′ reply′ heads tables tells)
+
+pub quiet-parts : (n : ℕ) (head links : List ℕ) (octets : ℕ) → quietBy n head links octets ≡ true
+    → (inReach n ≡ true) × (hasRoom (linksIn (length links)) octets ≡ true) × (n ≤ untilCall head links)
+unfolding quietBy
+quiet-parts n head links octets h = by-test (inReach n) refl (hasRoom (linksIn (length links)) octets) refl h
+  where
+    by-test : (s : Bool) → inReach n ≡ s → (t : Bool) → hasRoom (linksIn (length links)) octets ≡ t → cond (s && t) (leb n (untilCall head links)) false ≡ true
+        → (inReach n ≡ true) × (hasRoom (linksIn (length links)) octets ≡ true) × (n ≤ untilCall head links)
+    by-test true e true f k = (e, f, leb-true n (untilCall head links) k)
+    by-test true e false f k = absurd (false≢true k)
+    by-test false e t f k = absurd (false≢true k)
+
+-- quiet ticks of an advance
+pub advance-passed : (n : ℕ) (head links output reply made head′ links′ reply′ made′ : List ℕ) → quietBy n head links (length output) ≡ true
+    → head′ ≡ passedHead head n → links′ ≡ passedLinks links n → reply′ ≡ laid (replicate 2 0) reply → made′ ≡ laid (n ∷ []) made
+    → (isLent (length head) (length reply) && leb 1 (length made)) ≡ true
+    → advanceLeft (left 0 head′ links′ output reply′) made′ ≡ advanceCall n head links output reply made
+unfolding advanceCall
+advance-passed n head links output reply made head′ links′ reply′ made′ quiet heads tables tells makes lent =
+    let p = quiet-parts n head links (length output) quiet in
+    rw lent (passed-by head links output (p .1) n (reach-parts n (p .0) .0) (p .2) reply head′ links′ reply′ heads tables tells (p .0) made made′ makes)
 
 pub begun-whole : (o : Address) (head links reply : List ℕ) (t : Bool) (n : ℕ) (a : Answer) (head′ links′ reply′ : List ℕ) (k : ℕ)
     → t ≡ isLent (length head) (length reply) → t ≡ true → n ≡ linksIn (length links)

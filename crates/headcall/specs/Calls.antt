@@ -2,25 +2,25 @@
 -- too little is lent.
 -- Assumes nothing.
 use Prim.Native.Nat.{ℕ}
-use mathlib.Core.Bool.{Bool, cond, _&&_}
+use mathlib.Core.Bool.{Bool, false, cond, _&&_}
 use mathlib.Core.List.{List, [], _∷_}
 use lib.Dec.{eqb, leb}
 use lib.ListN.{length, replicate}
+use Rattle.clock.specs.Numbers.{inReach}
 use Rattle.frame.specs.Card.{numberOf}
 use Rattle.frame.specs.declared.Address.{Address}
 use Rattle.frame.specs.declared.Reply.{Reply}
-use Rattle.head.specs.Head.{soundOf}
-use Rattle.head.specs.declared.Head.{Head}
-use Rattle.headwords.specs.Head.{headWords, headIn}
-use Rattle.headwords.specs.Table.{tableWords, linksAt}
+unfoldable pub use Rattle.headpass.specs.Quiet.{headAt, quietOf, untilCall}
+use Rattle.headwords.specs.Head.{headWords}
+use Rattle.headwords.specs.Table.{tableWords, linksIn, linksAt}
 use Rattle.headwords.specs.Told.{toldWords}
+use Rattle.judging.specs.Judge.{hasRoom}
 use Rattle.judging.specs.declared.Request.{Request}
 use Rattle.links.specs.declared.Link.{Link}
 use Rattle.reader.specs.Decode.{readOf}
 use Rattle.serving.specs.Fresh.{Freshly, isDone, freshOf}
 use Rattle.serving.specs.Serve.{Served, serveOf}
 use Rattle.serving.specs.declared.Answer.{Answer}
-use Rattle.survey.specs.Facts.{soundTable, quietAll}
 use Rattle.words.specs.Words.{laid}
 
 -- the number that a call returns, and what then stands in the head's block, in the table, in the output and in the reply
@@ -52,10 +52,6 @@ pub record Told : Type 0 where
 abbrev pub told : ℕ → List ℕ → Told
 told n reply = record { number = n; reply = reply }
 
--- the head that stands in a block
-unfoldable pub headAt : List ℕ → Head
-headAt block = headIn (laid block (replicate 5 0))
-
 -- 5 words for the head, 5 for what is told
 unfoldable pub isLent : ℕ → ℕ → Bool
 isLent head reply = leb 5 head && leb 5 reply
@@ -73,6 +69,21 @@ keptLinks a xs links = cond (isDone (a .reply)) (laid (tableWords xs) links) lin
 
 unfoldable pub toldOf : Answer → List ℕ → Told
 toldOf a reply = told (numberOf (a .reply)) (laid (toldWords a) reply)
+
+-- what the core answers, and what its call leaves but for the reply
+pub record AnswerLeft : Type 0 where
+  pub answer : Answer
+  pub head : List ℕ
+  pub links : List ℕ
+  pub output : List ℕ
+
+abbrev pub answerLeft : Answer → List ℕ → List ℕ → List ℕ → AnswerLeft
+answerLeft a head links output = record { answer = a; head = head; links = links; output = output }
+
+unfoldable pub answeredOf : Request → List ℕ → List ℕ → List ℕ → AnswerLeft
+answeredOf r head links output =
+    let done = serveOf (headAt head) (linksAt links) r output in
+    answerLeft (done .answer) (keptHead (done .answer) head) (keptLinks (done .answer) (done .table) links) (done .octets)
 
 -- what the core's call left, in the caller's memory
 unfoldable pub handed : Served → List ℕ → List ℕ → List ℕ → Left
@@ -95,20 +106,19 @@ abbrev pub advanceLeft : Left → List ℕ → AdvanceLeft
 advanceLeft l made = record { call = l; made = made }
 
 -- an advance is the core's too, and the first word of `made` the number of ticks made
+unfoldable pub advancedOf : ℕ → List ℕ → List ℕ → List ℕ → List ℕ → List ℕ → AdvanceLeft
+advancedOf n head links output reply made =
+    let done = serveOf (headAt head) (linksAt links) (Request.Advance n) output in
+    advanceLeft (handed done head links reply) (laid (done .answer .made ∷ []) made)
+
 unfoldable pub advanceCall : ℕ → List ℕ → List ℕ → List ℕ → List ℕ → List ℕ → AdvanceLeft
 advanceCall n head links output reply made =
-    let done = serveOf (headAt head) (linksAt links) (Request.Advance n) output in
-    cond (isLent (length head) (length reply) && leb 1 (length made))
-    (advanceLeft (handed done head links reply) (laid (done .answer .made ∷ []) made))
+    cond (isLent (length head) (length reply) && leb 1 (length made)) (advancedOf n head links output reply made)
     (advanceLeft (left 100 head links output reply) made)
 
--- how many ticks of a head hand out nothing: those before the first link rings, of what is sound
-unfoldable pub quietOf : Head → List Link → ℕ
-quietOf h xs = cond (soundOf h && soundTable xs) (quietAll xs) 0
-
--- of the head in the block and the links in the words; none where the block is too short
-unfoldable pub untilCall : List ℕ → List ℕ → ℕ
-untilCall head links = cond (leb 5 (length head)) (quietOf (headAt head) (linksAt links)) 0
+-- n ticks that a call may make, each of which hands out nothing
+unfoldable pub quietBy : ℕ → List ℕ → List ℕ → ℕ → Bool
+quietBy n head links octets = cond (inReach n && hasRoom (linksIn (length links)) octets) (leb n (untilCall head links)) false
 
 -- a refusal of the reader's: nothing is changed, and nothing told
 unfoldable pub refusedOf : Reply → List ℕ → List ℕ → Told

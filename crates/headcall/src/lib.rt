@@ -1,11 +1,17 @@
 // The head's calls over words in the caller's memory: head and table are taken from them, and laid back where a call is done.
 ghost use mathlib.Core.Path.{_≡_};
+ghost use mathlib.Core.List.{[], _∷_};
 ghost use Prim.Native.Nat.{_≤_};
 ghost use lib.ListN.{getD, replicate};
-ghost use Rattle.headcall.specs.Calls.{left, begunLeft, told, headAt, isLent, laidHead, keptHead, begunHead, toldOf, refusedOf, servedOf, heardOf, begunOf};
+ghost use Rattle.headcall.specs.Calls.{left, answerLeft, begunLeft, advanceLeft, told, isLent, laidHead, keptHead, begunHead, toldOf, answeredOf, refusedOf, servedOf, heardOf, begunOf, quietBy, advancedOf, advanceCall};
 ghost use Rattle.headcall.specs.Gate.{leaveOf, askedOf};
 ghost use Rattle.headcall.specs.Lend.{keptOf, lendLeft, lendOf, clearLeft, clearOf};
+ghost use Rattle.headpass.specs.Quiet.{untilCall};
+ghost use Rattle.headwords.specs.Table.{linksIn};
+ghost use Rattle.judging.specs.Judge.{hasRoom};
+ghost use Rattle.judging.specs.declared.Request.{Request as Requested};
 ghost use Rattle.links.specs.Link.{idle};
+ghost use Rattle.words.specs.Words.{laid};
 use clock::Count;
 use clock::Quanta;
 use frame::Address;
@@ -27,6 +33,9 @@ const UNSOUND: u8 = 13;
 const HEAD: usize = 5;
 
 const REPLY: usize = 5;
+
+// Octets of a frame.
+const FRAME: usize = 60;
 
 // Up to so many links are few.
 const FEW: usize = 8;
@@ -123,15 +132,6 @@ fn is_lent(head: usize, reply: usize) -> bool
     (HEAD <= head) & (REPLY <= reply)
 }
 
-// The head in a block; words that a short block lacks are 0.
-fn load_head(head: &[u64]) -> Head
-    ensures { λ r. ⌜ r ≡ headAt (now (head .entry)) ⌝ }
-{
-    let mut w = [0u64; 5];
-    words::lay(head, &mut w);
-    headwords::head_in(w)
-}
-
 fn lay_head(answer: Answer, head: &mut [u64])
     ensures { λ _. ⌜ now (head .exit) ≡ laidHead answer (now (head .entry)) ⌝ }
 {
@@ -159,6 +159,17 @@ fn tell(answer: Answer, reply: &mut [u64]) -> u8
     number.number()
 }
 
+// The core's call of the head in the block, over the links that the words tell.
+fn answered(request: Request, head: &mut [u64], links: &mut [u64], out: &mut [u8]) -> Answer
+    ensures { λ r. ⌜ answerLeft r (now (head .exit)) (now (links .exit)) (now (out .exit)) ≡ answeredOf request (now (head .entry)) (now (links .entry)) (now (out .entry)) ⌝ }
+{
+    let h = headpass::load_head(head);
+    let n = headwords::links_in(links.len());
+    let answer = lend_all(h, links, n, request, out);
+    keep_head(answer, head);
+    answer
+}
+
 // A call of the head in the block, over the links that the words tell.
 pub fn served(
     request: Request,
@@ -170,13 +181,18 @@ pub fn served(
     ensures { λ r. ⌜ left r (now (head .exit)) (now (links .exit)) (now (out .exit)) (now (reply .exit)) ≡ servedOf request (now (head .entry)) (now (links .entry)) (now (out .entry)) (now (reply .entry)) ⌝ }
 {
     if is_lent(head.len(), reply.len()) {
-        let h = load_head(head);
-        let n = headwords::links_in(links.len());
-        let answer = lend_all(h, links, n, request, out);
-        keep_head(answer, head);
+        let answer = answered(request, head, links, out);
         return tell(answer, reply);
     }
     SHORT
+}
+
+// No frame, no notice.
+fn tell_nothing(reply: &mut [u64])
+    ensures { λ _. ⌜ now (reply .exit) ≡ laid (replicate 2 0) (now (reply .entry)) ⌝ }
+{
+    let nothing = [0u64; 2];
+    words::lay(&nothing, reply);
 }
 
 // A frame that the reader refuses changes nothing, and nothing is told.
@@ -184,8 +200,7 @@ fn refused(why: Reply, head: &[u64], reply: &mut [u64]) -> u8
     ensures { λ r. ⌜ told r (now (reply .exit)) ≡ refusedOf why (now (head .entry)) (now (reply .entry)) ⌝ }
 {
     if is_lent(head.len(), reply.len()) {
-        let nothing = [0u64; 2];
-        words::lay(&nothing, reply);
+        tell_nothing(reply);
         return why.number();
     }
     SHORT
@@ -266,4 +281,92 @@ pub fn asked(grants: &[u64], force: u8) -> Asked
         fourth: leave_at(grants, 3),
         force,
     }
+}
+
+// Sixty octets of output for each link.
+fn has_room(links: usize, octets: usize) -> bool
+    ensures { λ r. ⌜ r ≡ hasRoom (linksIn links) octets ⌝ }
+{
+    FRAME * headwords::links_in(links) <= octets
+}
+
+// One quantum has passed. A quiet tick is made in place.
+pub fn tick(head: &mut [u64], links: &mut [u64], out: &mut [u8], reply: &mut [u64]) -> u8
+    ensures { λ r. ⌜ left r (now (head .exit)) (now (links .exit)) (now (out .exit)) (now (reply .exit)) ≡ servedOf Requested.Tick (now (head .entry)) (now (links .entry)) (now (out .entry)) (now (reply .entry)) ⌝ }
+{
+    if is_lent(head.len(), reply.len()) {
+        if has_room(links.len(), out.len()) {
+            if headpass::is_quiet(head, links) {
+                headpass::pass_head(head, 1);
+                headpass::pass_links(links, 1);
+                tell_nothing(reply);
+                return 0;
+            }
+        }
+    }
+    served(Request::Tick, head, links, out, reply)
+}
+
+// How many ticks of the head hand out nothing: those before the first at which a link rings.
+pub fn ticks_until(head: &[u64], links: &[u64]) -> u64
+    ensures { λ r. ⌜ r ≡ untilCall (now (head .entry)) (now (links .entry)) ⌝ }
+{
+    headpass::quiet(head, links) as u64
+}
+
+fn lay_made(ticks: u64, made: &mut [u64])
+    ensures { λ _. ⌜ now (made .exit) ≡ laid (ticks ∷ []) (now (made .entry)) ⌝ }
+{
+    let word = [ticks];
+    words::lay(&word, made);
+}
+
+// So many ticks, where each is quiet.
+fn quiet_by(n: u64, head: &[u64], links: &[u64], out: usize) -> bool
+    ensures { λ r. ⌜ r ≡ quietBy n (now (head .entry)) (now (links .entry)) out ⌝ }
+{
+    if clock::in_reach(n) & has_room(links.len(), out) {
+        return n <= headpass::quiet(head, links) as u64;
+    }
+    false
+}
+
+// As the core advances, and what is told of it.
+fn advanced(
+    n: u64,
+    head: &mut [u64],
+    links: &mut [u64],
+    out: &mut [u8],
+    reply: &mut [u64],
+    made: &mut [u64],
+) -> u8
+    ensures { λ r. ⌜ advanceLeft (left r (now (head .exit)) (now (links .exit)) (now (out .exit)) (now (reply .exit))) (now (made .exit)) ≡ advancedOf n (now (head .entry)) (now (links .entry)) (now (out .entry)) (now (reply .entry)) (now (made .entry)) ⌝ }
+{
+    let answer = answered(Request::Advance(n), head, links, out);
+    lay_made(answer.made, made);
+    tell(answer, reply)
+}
+
+// Ticks until n are made or one hands out a frame, and how many were made.
+pub fn advance(
+    n: u64,
+    head: &mut [u64],
+    links: &mut [u64],
+    out: &mut [u8],
+    reply: &mut [u64],
+    made: &mut [u64],
+) -> u8
+    ensures { λ r. ⌜ advanceLeft (left r (now (head .exit)) (now (links .exit)) (now (out .exit)) (now (reply .exit))) (now (made .exit)) ≡ advanceCall n (now (head .entry)) (now (links .entry)) (now (out .entry)) (now (reply .entry)) (now (made .entry)) ⌝ }
+{
+    if is_lent(head.len(), reply.len()) & (1 <= made.len()) {
+        if quiet_by(n, head, links, out.len()) {
+            headpass::pass_head(head, n as u32);
+            headpass::pass_links(links, n);
+            tell_nothing(reply);
+            lay_made(n, made);
+            return 0;
+        }
+        return advanced(n, head, links, out, reply, made);
+    }
+    SHORT
 }

@@ -8,11 +8,8 @@ use Rattle.headcall.proofs.refused.Tie as tie
 is-lent-requires : tie.Need-is-lent-requires
 is-lent-requires c κs = search needs
 
-slice-aggregate-lay : tie.Need-slice-aggregate-lay
-slice-aggregate-lay c = search needs
-
-lay-requires : tie.Need-lay-requires
-lay-requires c κs = search needs
+tell-nothing-requires : tie.Need-tell-nothing-requires
+tell-nothing-requires c κs = search needs
 
 number-requires : tie.Need-number-requires
 number-requires c κs = search needs
@@ -22,7 +19,7 @@ same-length c = search needs
 
 returns : tie.Need-returns
 unfolding refusedOf
-returns c = rw (c .number .ensures, c .before .before .before .lay .ensures, ← c .before .before .before .before .before .before .before .is-lent .ensures, c .before .before .before .before .before .before .if1 .taken)
+returns c = rw (c .number .ensures, c .before .before .before .tell-nothing .ensures, ← c .before .before .before .before .before .before .is-lent .ensures, c .before .before .before .before .before .if1 .taken)
 
 returns-2 : tie.Need-returns-2
 unfolding refusedOf
@@ -31,11 +28,4 @@ returns-2 c = rw (← c .before .is-lent .ensures, c .if1 .left)
 pub refused-spec : {M : Type 1} → statement M
 refused-spec =
     tie.close
-    (tie.spec
-    is-lent-requires
-    slice-aggregate-lay
-    lay-requires
-    number-requires
-    same-length
-    returns
-    returns-2)
+    (tie.spec is-lent-requires tell-nothing-requires number-requires same-length returns returns-2)

@@ -1,6 +1,5 @@
 -- `headcall::served` meets its promise.
 -- Assumes nothing.
-use Rattle.headwords.specs.Laws.{links-few}
 use Rattle.headcall.proofs.Words.{served-whole}
 use Rattle.headcall.specs.Calls.{servedOf}
 use borrow.Author.Needs.{needs}
@@ -10,17 +9,8 @@ use Rattle.headcall.proofs.served.Tie as tie
 is-lent-requires : tie.Need-is-lent-requires
 is-lent-requires c κs = search needs
 
-load-head-requires : tie.Need-load-head-requires
-load-head-requires c κs = search needs
-
-links-in-requires : tie.Need-links-in-requires
-links-in-requires c κs = search needs
-
-lend-all-requires : tie.Need-lend-all-requires
-lend-all-requires c κs = rw (c .before .before .links-in .ensures) (links-few _ .0)
-
-keep-head-requires : tie.Need-keep-head-requires
-keep-head-requires c κs = search needs
+answered-requires : tie.Need-answered-requires
+answered-requires c κs = search needs
 
 tell-requires : tie.Need-tell-requires
 tell-requires c κs = search needs
@@ -39,14 +29,11 @@ same-length-4 c = search needs
 
 returns : tie.Need-returns
 returns c =
-    let a = c .before .before .before .before .before .before .before .before .before .before .before .before .before .before .before .before .before .before .before .before .before .before .before .before .args in
-    served-whole (a .request) (a .head .now) (a .links .now) (a .out .now) (a .reply .now) _ _ _ _ _ _ _ _ _
-    (c .before .before .before .before .before .before .before .before .before .before .before .before .before .before .before .before .before .before .before .is-lent .ensures)
-    (c .before .before .before .before .before .before .before .before .before .before .before .before .before .before .before .before .before .before .if1 .taken)
-    (c .before .before .before .before .before .before .before .before .before .before .before .before .before .before .before .before .load-head .ensures)
-    (c .before .before .before .before .before .before .before .before .before .before .before .before .before .before .before .links-in .ensures)
-    (c .before .before .before .before .before .before .before .before .before .before .before .before .lend-all .ensures)
-    (c .before .before .before .before .before .before .keep-head .ensures)
+    let a = c .before .before .before .before .before .before .before .before .before .before .before .before .before .before .before .before .before .before .before .before .args in
+    served-whole (a .request) (a .head .now) (a .links .now) (a .out .now) (a .reply .now) _ _ _ _ _ _ _
+    (c .before .before .before .before .before .before .before .before .before .before .before .before .before .before .before .is-lent .ensures)
+    (c .before .before .before .before .before .before .before .before .before .before .before .before .before .before .if1 .taken)
+    (c .before .before .before .before .before .before .before .before .before .before .answered .ensures)
     (c .before .before .tell .ensures)
 
 returns-2 : tie.Need-returns-2
@@ -58,10 +45,7 @@ served-spec =
     tie.close
     (tie.spec
     is-lent-requires
-    load-head-requires
-    links-in-requires
-    lend-all-requires
-    keep-head-requires
+    answered-requires
     tell-requires
     same-length
     same-length-2

@@ -1,9 +1,9 @@
--- `headcall::load_head` meets its promise.
+-- `headpass::load_head` meets its promise.
 -- Assumes nothing.
-use Rattle.headcall.specs.Calls.{headAt}
+use Rattle.headpass.specs.Quiet.{headAt}
 use borrow.Author.Needs.{needs}
-use Rattle.headcall.proofs.load_head.Statement.{statement}
-use Rattle.headcall.proofs.load_head.Tie as tie
+use Rattle.headpass.proofs.load_head.Statement.{statement}
+use Rattle.headpass.proofs.load_head.Tie as tie
 
 slice-aggregate-lay : tie.Need-slice-aggregate-lay
 slice-aggregate-lay c = search needs
