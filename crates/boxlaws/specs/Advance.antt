@@ -1,7 +1,7 @@
--- Document 01, "Advance", at the box: what the call is worth. It is the iterated single ticks by its promise (`floorbox` Advance).
+-- Rules A1 to A4 (docs/DECISIONS.md, "Advance"), at the box: what the call is worth. It is the iterated single ticks by its promise (`floorbox` Advance).
 -- Assumes nothing.
 use Prim.Native.Nat.{ℕ, zero, suc, _+_, _≤_}
-use mathlib.Core.Path.{_≡_, refl, sym, ap, _∙_}
+use mathlib.Core.Path.{_≡_, refl}
 use mathlib.Core.Bool.{true, false}
 use mathlib.Core.Logic.{⊎-elim}
 use native.Mathlib.Omega.{arith}
@@ -9,7 +9,6 @@ use Rattle.laws.specs.Cases.{decided}
 use Rattle.laws.specs.Jump.{ticks, ticks-next, ticks-told, ticks-end}
 use Rattle.clock.specs.Laws.{reach-parts}
 use Rattle.clock.specs.Numbers.{inReach}
-use Rattle.frame.specs.Card.{numberOf}
 use Rattle.frame.specs.declared.Reply.the-variants.{Done, Grant, Unsound}
 use Rattle.floorbox.specs.Advance.{isDone, isSilent, again, out, advanceOf}
 use Rattle.floorbox.specs.Answer.{bare, refused}

@@ -1,7 +1,7 @@
--- Document 01, "Advance": 9 unless n is 1 to 65,536, tested after 13; then single ticks.
+-- Rules A1 to A4 (docs/DECISIONS.md, "Advance"), at the box: 9 unless n is 1 to 65,536, tested after 13; then single ticks.
 -- Assumes nothing.
 use Prim.Native.Nat.{ℕ}
-use mathlib.Core.Bool.{Bool, cond, _&&_}
+use mathlib.Core.Bool.{Bool, _&&_}
 use mathlib.Core.List.{[], _∷_}
 use lib.Dec.{eqb}
 use Rattle.laws.specs.Jump.{ticks}

@@ -1,4 +1,4 @@
--- Document 01, "Advance" at the head: so many single ticks, stopping after the first that hands out a frame, are the ticks before the first
+-- Rules A1 to A4, "Advance", at the head: so many single ticks, stopping after the first that hands out a frame, are the ticks before the first
 -- link rings, passed at once, and one more.
 -- Assumes nothing.
 use Prim.Native.Nat.{ℕ, zero, suc, _+_, _-_, _*_, _/_, _≤_, _<_, min}
@@ -33,7 +33,7 @@ use Rattle.links.specs.declared.Stepped.{Stepped}
 use Rattle.links.specs.declared.Sent.{Sent}
 use Rattle.links.specs.declared.Sent.the-variants.{Nothing, To}
 use Rattle.survey.specs.Facts.{isFew, allSound, soundTable, quietAll}
-use Rattle.table.specs.Events.{portOf, reactOf, reacted, drivenOf}
+use Rattle.table.specs.Events.{portOf, reactOf, reacted}
 use Rattle.table.specs.Output.{Output, output, pasted, noteOf, noteLink, messageOf}
 use Rattle.table.specs.declared.Event.{Event}
 use Rattle.table.specs.declared.Sender.{Sender}
@@ -42,7 +42,7 @@ use Rattle.plans.specs.declared.Plan.{Plan}
 use Rattle.judging.specs.Judge.{lookOf, leapt, hasRoom}
 use Rattle.judging.specs.declared.Request.{Request}
 use Rattle.writer.specs.Write.{writeOf}
-use Rattle.serving.specs.Serve.{Served, served, sentOf, doneOf, planOf, serveOf}
+use Rattle.serving.specs.Serve.{Served, served, sentOf, doneOf, serveOf}
 use Rattle.headlaws.specs.Calls.{known, plan-is}
 use Rattle.headlaws.specs.Events.{table-parts}
 use Rattle.headlaws.specs.Passing.{passedAll, passed-length, all-joins, all-none, head-none, leap-driven, leap-sent}

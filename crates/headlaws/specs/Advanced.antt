@@ -1,4 +1,4 @@
--- Document 01, "Advance", at the head: 13, 12 and 9 in that order; then single ticks are made until n are made, or the last one handed out a
+-- Rules A1 to A4 (docs/DECISIONS.md, "Advance"), at the head: 13, 12 and 9 in that order; then single ticks are made until n are made, or the last one handed out a
 -- frame or a notice, or the next would be refused. That the head's call answers so is `advance-page` (Advance).
 -- Assumes nothing.
 use Prim.Native.Nat.{ℕ}

@@ -1,8 +1,8 @@
 -- Ticks at which no link rings, passed at once: the table stays sound, and a leap is a tick of the table so passed.
 -- Assumes nothing.
-use Prim.Native.Nat.{ℕ, zero, suc, _+_, _-_, _≤_, _<_, _%_, _^_, min}
-use mathlib.Core.Path.{_≡_, refl, sym, ap, _∙_}
-use mathlib.Core.Bool.{true, not, _&&_, _||_}
+use Prim.Native.Nat.{ℕ, suc, _+_, _-_, _≤_, _<_, _%_, _^_}
+use mathlib.Core.Path.{_≡_, refl, ap}
+use mathlib.Core.Bool.{true}
 use mathlib.Core.List.{List, [], _∷_}
 use mathlib.Core.Logic.{⊎-elim}
 use native.Mathlib.Omega.{arith}
@@ -21,7 +21,6 @@ use Rattle.head.specs.declared.Window.{Window}
 use Rattle.head.specs.declared.Window.the-variants.{Idle, Before, Inside}
 use Rattle.lent.specs.Folds.{places, each}
 use Rattle.links.specs.Laws.{passed-none, passed-sound, passed-joins}
-use Rattle.links.specs.Link.{isHeld}
 use Rattle.links.specs.Pass.{passedOf}
 use Rattle.links.specs.declared.Link.{Link}
 use Rattle.survey.specs.Facts.{holds, anyHolds, allSound, different, quietAll}

@@ -1,12 +1,12 @@
--- Document 01, "Advance", over any end: single ticks are made until so many are made, or the last one made handed something out, or the
+-- Rules A2 to A4 (docs/DECISIONS.md, "Advance"), over any end: single ticks are made until so many are made, or the last one made handed something out, or the
 -- next would be refused. And the law of the jump: ticks that surely hand out nothing are passed in one step.
 -- Assumes nothing.
 use Prim.Native.Nat.{ℕ, zero, suc, _+_, _-_, _≤_, _<_}
-use mathlib.Core.Path.{_≡_, refl, sym, ap, _∙_}
+use mathlib.Core.Path.{_≡_, refl, _∙_}
 use mathlib.Core.Bool.{Bool, true, false, cond}
 use mathlib.Core.Logic.{_≢_}
 use native.Mathlib.Omega.{arith}
-use borrow.Author.Tests.{eq-eqb, ne-eqb}
+use borrow.Author.Tests.{ne-eqb}
 use lib.Dec.{eqb}
 
 -- an answer says what its tick left; `again` is the tick after it, `out` the reply to the call with the number of ticks made

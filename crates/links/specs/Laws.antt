@@ -1,13 +1,13 @@
 -- The laws of a jump, of one link, and that the tick after all of its quiet ones sends a frame.
 -- Assumes nothing.
 use Prim.Native.Nat.{ℕ, suc, _-_, _≤_, _<_, min}
-use mathlib.Core.Path.{_≡_, refl, sym, _∙_}
-use mathlib.Core.Bool.{Bool, true, false, _&&_, and-eq-true-iff}
+use mathlib.Core.Path.{_≡_, refl}
+use mathlib.Core.Bool.{Bool, true, _&&_, and-eq-true-iff}
 use mathlib.Core.Logic.{_⊎_, inl, inr, ⊎-elim}
 use native.Mathlib.Omega.{arith}
-use borrow.Author.Tests.{eqb-true, le-leb}
+use borrow.Author.Tests.{eqb-true}
 use lib.Dec.{eqb}
-use Rattle.laws.specs.Cases.{cut, decided}
+use Rattle.laws.specs.Cases.{cut}
 use Rattle.clock.specs.Laws.{ticked-quiet, ticked-rings, passed-none as timer-none, passed-off, passed-joined, passed-runs, quiet-off, quiet-on, quiet-falls}
 use Rattle.clock.specs.Numbers.{watchdog, periodic, wait, furthestAdvance}
 use Rattle.clock.specs.Timers.{off, runs, ticked, quietOf as timerQuiet}
@@ -22,7 +22,6 @@ use Rattle.links.specs.declared.State.the-variants.{Idle, Waiting, Regis
 use Rattle.links.specs.declared.Link.{Link}
 use Rattle.links.specs.declared.Sent.{Sent}
 use Rattle.links.specs.declared.Sent.the-variants.{Nothing, To}
-use Rattle.links.specs.declared.Stepped.{Stepped}
 
 parts : (a b c d : Bool) → (a && b && c && d) ≡ true → (a ≡ true) × (b ≡ true) × (c ≡ true) × (d ≡ true)
 parts a b c d h =

@@ -1,13 +1,13 @@
 -- `floorbox::FloorBox::ticks` meets its promise: each turn passes quiet ticks and makes one more.
 -- Assumes nothing.
-use Prim.Native.Nat.{ℕ, _+_, _-_, _≤_, _<_}
+use Prim.Native.Nat.{_+_, _-_, _≤_, _<_}
 use mathlib.Core.Path.{_≡_, refl, sym, _∙_}
-use mathlib.Core.Bool.{true, false}
+use mathlib.Core.Bool.{true}
 use borrow.Author.Needs.{needs}
 use borrow.Author.Tests.{not-true, not-false}
 use native.Mathlib.Omega.{arith}
 use Rattle.frame.specs.declared.Reply.the-variants.{Done}
-use Rattle.floorbox.specs.Advance.{isDone, isSilent}
+use Rattle.floorbox.specs.Advance.{isSilent}
 use Rattle.floorbox.specs.Answer.{bare}
 use Rattle.floorbox.specs.Turns.{boxTicks, bare-silent, whole, turn-end, within, made-next, made-last, refused-first, refused-later}
 use Rattle.floorbox.proofs.FloorBox.ticks.Statement.{statement}
