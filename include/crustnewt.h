@@ -161,9 +161,9 @@ uint8_t crustnewt_box_hear(const uint8_t *octets, size_t octets_length, uint32_t
 uint8_t crustnewt_box_tick(uint64_t *block, size_t block_words, uint8_t *frames, size_t frames_octets, uint64_t *reply,
                            size_t reply_words);
 
-/* So many quanta have passed, 1 to CRUSTNEWT_MOST_TICKS: single ticks are made until that many are, or the last one made handed out a
- * frame or a notice, or the next would be refused. Frames and reply are those of the last tick made, and `made` says how many were
- * made: at least 1 when done. CRUSTNEWT_GRANT for another number; CRUSTNEWT_WINDOW only if the very first tick would be refused. A
+/* So many quanta have passed, 1 to CRUSTNEWT_MOST_TICKS: that many single ticks, but none behind one that hands out a frame or a
+ * notice, and none that would be refused. Frames and reply are those of the last tick made, and `made` says how many were made: at
+ * least 1 when done. CRUSTNEWT_GRANT for another number; CRUSTNEWT_WINDOW only if the very first tick would be refused. A
  * refusal has made none, and says 0; after CRUSTNEWT_SHORT `made` stays as it was. */
 uint8_t crustnewt_box_advance(uint64_t ticks, uint64_t *block, size_t block_words, uint8_t *frames, size_t frames_octets,
                               uint64_t *reply, size_t reply_words, uint64_t *made, size_t made_words);
@@ -271,8 +271,8 @@ uint8_t crustnewt_head_hear(size_t link, const uint8_t *octets, size_t octets_le
 uint8_t crustnewt_head_tick(uint64_t *head, size_t head_words, uint64_t *links, size_t links_words, uint8_t *output,
                             size_t output_octets, uint64_t *reply, size_t reply_words);
 
-/* So many quanta have passed, as for a box: single ticks are made until that many are, or the last one made handed out a frame. A
- * window that opens or closes hands out nothing. */
+/* So many quanta have passed, as for a box: that many single ticks, but none behind one that hands out a frame. A window that opens or
+ * closes hands out nothing. */
 uint8_t crustnewt_head_advance(uint64_t ticks, uint64_t *head, size_t head_words, uint64_t *links, size_t links_words,
                                uint8_t *output, size_t output_octets, uint64_t *reply, size_t reply_words, uint64_t *made,
                                size_t made_words);

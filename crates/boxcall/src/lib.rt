@@ -248,7 +248,7 @@ fn count_ticks(
     settle(answer, block, frames, reply)
 }
 
-// So many ticks may be made, and none of them is more than quiet.
+// A call may make so many ticks, and each of them is quiet.
 fn are_quiet(n: u64, block: &[u64]) -> bool
     ensures { λ r. ⌜ r ≡ (inReach n && leb n (untilCall (now (block .entry)))) ⌝ }
 {

@@ -1,4 +1,4 @@
--- Rules A1 to A4 (docs/DECISIONS.md, "Advance"), at the box: 9 unless n is 1 to 65,536, tested after 13; then single ticks.
+-- Rules A1 to A4 (docs/DECISIONS.md, "Advance"), at the box: 13 and 9 in that order, and else single ticks (`ticks` of laws' Jump).
 -- Assumes nothing.
 use Prim.Native.Nat.{ℕ}
 use mathlib.Core.Bool.{Bool, _&&_}
@@ -26,7 +26,7 @@ isSilent r = eqb (r .frames .number) 0 && isNothing (r .notices .first)
 abbrev pub again : Answer → Answer
 again r = tickOf (r .next)
 
--- the reply is that of the last tick made, and how many were made
+-- what the last tick made was answered with, and how many were made
 abbrev pub out : Answer → ℕ → Advanced
 out r m = record { answer = r; made = m }
 

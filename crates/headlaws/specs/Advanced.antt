@@ -1,5 +1,5 @@
--- Rules A1 to A4 (docs/DECISIONS.md, "Advance"), at the head: 13, 12 and 9 in that order; then single ticks are made until n are made, or the last one handed out a
--- frame or a notice, or the next would be refused. That the head's call answers so is `advance-page` (Advance).
+-- Rules A1 to A4 (docs/DECISIONS.md, "Advance"), at the head: 13, 12 and 9 in that order, and else single ticks (`ticks` of laws' Jump). That the
+-- head's call answers so is `advance-page` (Advance).
 -- Assumes nothing.
 use Prim.Native.Nat.{ℕ}
 use mathlib.Core.Bool.{Bool, true, false, _&&_}

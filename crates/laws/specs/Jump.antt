@@ -1,5 +1,5 @@
--- Rules A2 to A4 (docs/DECISIONS.md, "Advance"), over any end: single ticks are made until so many are made, or the last one made handed something out, or the
--- next would be refused. And the law of the jump: ticks that surely hand out nothing are passed in one step.
+-- Rules A2 to A4 (docs/DECISIONS.md, "Advance"), over any end: ticks one after the other, as many as are asked for, none behind one that hands
+-- something out and none that would be refused. And the law of the jump: ticks that surely hand out nothing are passed in one step.
 -- Assumes nothing.
 use Prim.Native.Nat.{ℕ, zero, suc, _+_, _-_, _≤_, _<_}
 use mathlib.Core.Path.{_≡_, refl, _∙_}

@@ -103,11 +103,11 @@ impl FloorBox {
         self.call(sys::box_tick)
     }
 
-    /// So many quanta have passed, 1 to 65,536: single ticks are made until
-    /// that many are, or one hands out a frame or a notice, or the next would
-    /// be refused.
+    /// So many quanta have passed, 1 to 65,536: that many single ticks, but none
+    /// behind one that hands out a frame or a notice, and none that would be
+    /// refused.
     ///
-    /// The reply is that of the last tick made. [`Refusal::Grant`] for another
+    /// The reply is the last tick's. [`Refusal::Grant`] for another
     /// number; after a refusal no tick was made.
     ///
     /// ```

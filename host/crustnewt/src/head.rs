@@ -155,10 +155,10 @@ impl<T: Table> Head<T> {
         self.call(sys::head_tick)
     }
 
-    /// So many quanta have passed, 1 to 65,536: single ticks are made until
-    /// that many are, or one hands out a frame.
+    /// So many quanta have passed, 1 to 65,536: that many single ticks, but none
+    /// behind one that hands out a frame.
     ///
-    /// The reply is that of the last tick made. [`Refusal::Grant`] for another
+    /// The reply is the last tick's. [`Refusal::Grant`] for another
     /// number; after a refusal no tick was made.
     #[inline]
     pub fn advance(&mut self, ticks: u64) -> Result<Advanced<HeadReply<'_>>, Refusal> {

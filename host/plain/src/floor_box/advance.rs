@@ -6,9 +6,9 @@ use crate::numbers::{before_first_end, pass, MOST_TICKS};
 use crate::refusal::{require, Refusal};
 
 impl FloorBox {
-    /// So many quanta pass, 1 to 65,536, or fewer: it stops after the first
-    /// tick that hands out a frame or a notice, and before one that would be
-    /// refused. The first tick's refusal is the answer.
+    /// So many quanta pass, 1 to 65,536, or fewer: a tick that tells or sends
+    /// something is the last, and one that would be refused isn't made. Where
+    /// that is the first, its refusal is the answer.
     pub fn advance(&mut self, ticks: u64) -> Result<Advanced<BoxAnswer>, Refusal> {
         require(self.is_sound(), Refusal::Unsound)?;
         let asked = asked(ticks)?;
