@@ -23,7 +23,7 @@ use Rattle.headlaws.specs.Refusals.{call-reply, refused-unchanged}
 use Rattle.words.specs.Words.{laid}
 use Rattle.headwords.specs.Laws.{length-links}
 use Rattle.headwords.specs.Table.{linksIn, linksAt}
-use Rattle.headcall.specs.Calls.{AdvanceLeft, left, advanceLeft, headAt, isLent, keptHead, keptLinks, handed, servedOf, advanceCall}
+use Rattle.headcall.specs.Calls.{AdvanceLeft, left, advanceLeft, headAt, isLent, keptHead, keptLinks, handed, servedOf, advancedOf, advanceCall}
 use Rattle.facelaws.specs.Advance.{headLeft, HeadAdvance}
 use Rattle.facelaws.specs.Head.{Stand, HeadRepacked}
 use Rattle.facelaws.proofs.HeadStands.{enough, head-repacked}
@@ -31,7 +31,7 @@ use Rattle.facelaws.proofs.HeadStands.{enough, head-repacked}
 -- where a word is lent for the number made
 pub as-request : (n : ℕ) (head links output reply made : List ℕ) → leb 1 (length made) ≡ true
     → advanceCall n head links output reply made .call ≡ servedOf (Request.Advance n) head links output reply
-unfolding advanceCall servedOf
+unfolding advanceCall advancedOf servedOf
 as-request n head links output reply made h =
     ⊎-elim (λ (e : isLent (length head) (length reply) ≡ true). rw (e, h)) (λ (e : isLent (length head) (length reply) ≡ false). rw e)
     (decided (isLent (length head) (length reply)))
@@ -45,7 +45,7 @@ as-short n head links output reply made h = rw (h, and-false (isLent (length hea
 pub as-handed : (n : ℕ) (head links output reply made : List ℕ) → isLent (length head) (length reply) ≡ true → leb 1 (length made) ≡ true
     → (x : Served) → serveOf (headAt head) (linksAt links) (Request.Advance n) output ≡ x
     → advanceCall n head links output reply made ≡ advanceLeft (handed x head links reply) (laid (x .answer .made ∷ []) made)
-unfolding advanceCall
+unfolding advanceCall advancedOf
 as-handed n head links output reply made e h x s = rw (e, h, s)
 
 -- the tests in their order, of what is sound
