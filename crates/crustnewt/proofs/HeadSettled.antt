@@ -3,8 +3,8 @@
 use mathlib.Core.Path.{sym, _∙_}
 use denote.Ref.{now}
 use Rattle.laws.specs.Settles.{Settles, SettlesLent}
-use Rattle.headcall.specs.Calls.{left, begunLeft, advanceLeft}
-use Rattle.headcall.proofs.Settled.{call-settles, fresh-settles, advanced-settles}
+use Rattle.face_head_calls.specs.Calls.{left, begunLeft, advanceLeft}
+use Rattle.face_head_calls.proofs.Settled.{call-settles, fresh-settles, advanced-settles}
 use Rattle.crustnewt.proofs.crustnewt_head_admit.Kinds as admit-kinds
 use Rattle.crustnewt.proofs.crustnewt_head_admit.Reads as admit
 use Rattle.crustnewt.proofs.crustnewt_head_deregister.Kinds as deregister-kinds

@@ -1,18 +1,18 @@
 // The C face: the caller keeps a box, or a head and its table, as words in blocks, and lends what a call hands out.
 ghost use mathlib.Core.Path.{_≡_};
-ghost use Rattle.boxcall.specs.Calls.{left, heardOf, freshCall, boxCall, advanceLeft, advanceCall, nextCall};
-ghost use Rattle.boxpass.specs.Block.{untilCall};
-ghost use Rattle.frameread.specs.Read.{readLeft, readCall};
-ghost use Rattle.framewrite.specs.Write.{writeLeft, writeCall};
-ghost use Rattle.floorbox.specs.Box.{registerOf, deregisterOf, tickOf};
-ghost use Rattle.headcall.specs.Calls.{left as headLeft, begunLeft, servedOf, heardOf as headHeard, begunOf, advanceLeft as headAdvanceLeft, advanceCall as headAdvance};
-ghost use Rattle.headpass.specs.Quiet.{untilCall as headUntil};
-ghost use Rattle.headcall.specs.Gate.{askedOf};
-ghost use Rattle.judging.specs.declared.Request.{Request as Requested};
+ghost use Rattle.face_box_calls.specs.Calls.{left, heardOf, freshCall, boxCall, advanceLeft, advanceCall, nextCall};
+ghost use Rattle.face_box_pass.specs.Block.{untilCall};
+ghost use Rattle.face_frame_read.specs.Read.{readLeft, readCall};
+ghost use Rattle.face_frame_write.specs.Write.{writeLeft, writeCall};
+ghost use Rattle.box_calls.specs.Box.{registerOf, deregisterOf, tickOf};
+ghost use Rattle.face_head_calls.specs.Calls.{left as headLeft, begunLeft, servedOf, heardOf as headHeard, begunOf, advanceLeft as headAdvanceLeft, advanceCall as headAdvance};
+ghost use Rattle.face_head_pass.specs.Quiet.{untilCall as headUntil};
+ghost use Rattle.face_head_calls.specs.Gate.{askedOf};
+ghost use Rattle.head_judging.specs.declared.Request.{Request as Requested};
 use clock::Count;
 use clock::Quanta;
 use frame::Address;
-use judging::Request;
+use head_judging::Request;
 
 // A box that has not begun.
 #[no_mangle]
@@ -24,7 +24,7 @@ pub extern "C" fn crustnewt_box_fresh(
 ) -> u8
     ensures { λ r. ⌜ left r (now (block .exit)) (now (frames .exit)) (now (reply .exit)) ≡ freshCall address (now (block .entry)) (now (frames .entry)) (now (reply .entry)) ⌝ }
 {
-    boxcall::fresh(address, block, frames, reply)
+    face_box_calls::fresh(address, block, frames, reply)
 }
 
 // The client asks to register.
@@ -36,7 +36,7 @@ pub extern "C" fn crustnewt_box_register(
 ) -> u8
     ensures { λ r. ⌜ left r (now (block .exit)) (now (frames .exit)) (now (reply .exit)) ≡ boxCall registerOf (now (block .entry)) (now (frames .entry)) (now (reply .entry)) ⌝ }
 {
-    boxcall::register(block, frames, reply)
+    face_box_calls::register(block, frames, reply)
 }
 
 // The client asks to deregister.
@@ -48,7 +48,7 @@ pub extern "C" fn crustnewt_box_deregister(
 ) -> u8
     ensures { λ r. ⌜ left r (now (block .exit)) (now (frames .exit)) (now (reply .exit)) ≡ boxCall deregisterOf (now (block .entry)) (now (frames .entry)) (now (reply .entry)) ⌝ }
 {
-    boxcall::deregister(block, frames, reply)
+    face_box_calls::deregister(block, frames, reply)
 }
 
 // The octets of a frame that came, read and heard, with the caller's random number.
@@ -62,7 +62,7 @@ pub extern "C" fn crustnewt_box_hear(
 ) -> u8
     ensures { λ r. ⌜ left r (now (block .exit)) (now (frames .exit)) (now (reply .exit)) ≡ boxCall (heardOf (now (octets .entry)) random) (now (block .entry)) (now (frames .entry)) (now (reply .entry)) ⌝ }
 {
-    boxcall::hear(octets, random, block, frames, reply)
+    face_box_calls::hear(octets, random, block, frames, reply)
 }
 
 // One quantum has passed.
@@ -70,7 +70,7 @@ pub extern "C" fn crustnewt_box_hear(
 pub extern "C" fn crustnewt_box_tick(block: &mut [u64], frames: &mut [u8], reply: &mut [u64]) -> u8
     ensures { λ r. ⌜ left r (now (block .exit)) (now (frames .exit)) (now (reply .exit)) ≡ boxCall tickOf (now (block .entry)) (now (frames .entry)) (now (reply .entry)) ⌝ }
 {
-    boxcall::tick(block, frames, reply)
+    face_box_calls::tick(block, frames, reply)
 }
 
 // So many quanta have passed, unless one of them hands something out or is refused.
@@ -84,7 +84,7 @@ pub extern "C" fn crustnewt_box_advance(
 ) -> u8
     ensures { λ r. ⌜ advanceLeft (left r (now (block .exit)) (now (frames .exit)) (now (reply .exit))) (now (made .exit)) ≡ advanceCall ticks (now (block .entry)) (now (frames .entry)) (now (reply .entry)) (now (made .entry)) ⌝ }
 {
-    boxcall::advance(ticks, block, frames, reply, made)
+    face_box_calls::advance(ticks, block, frames, reply, made)
 }
 
 // How many quanta are sure to pass with nothing handed out.
@@ -92,7 +92,7 @@ pub extern "C" fn crustnewt_box_advance(
 pub extern "C" fn crustnewt_box_ticks_until(block: &[u64]) -> u64
     ensures { λ r. ⌜ r ≡ untilCall (now (block .entry)) ⌝ }
 {
-    boxcall::ticks_until(block)
+    face_box_calls::ticks_until(block)
 }
 
 // Which waiting frame goes next: 0 none, 1 the control frame, 2 the data frame.
@@ -104,7 +104,7 @@ pub extern "C" fn crustnewt_box_next_to_send<'a>(
 ) -> u8
     ensures { λ r. ⌜ r ≡ nextCall (now (block .entry)) (control .entry) («data» .entry) ⌝ }
 {
-    boxcall::next_to_send(block, control, data)
+    face_box_calls::next_to_send(block, control, data)
 }
 
 // The octets of a frame, read into the words of a message; on a refusal they are those of the blank one.
@@ -112,7 +112,7 @@ pub extern "C" fn crustnewt_box_next_to_send<'a>(
 pub extern "C" fn crustnewt_read(octets: &[u8], message: &mut [u64]) -> u8
     ensures { λ r. ⌜ readLeft r (now (message .exit)) ≡ readCall (now (octets .entry)) (now (message .entry)) ⌝ }
 {
-    frameread::read(octets, message)
+    face_frame_read::read(octets, message)
 }
 
 // The words of a message, written into the octets of its frame; on a refusal they are zero.
@@ -120,7 +120,7 @@ pub extern "C" fn crustnewt_read(octets: &[u8], message: &mut [u64]) -> u8
 pub extern "C" fn crustnewt_write(message: &[u64], octets: &mut [u8]) -> u8
     ensures { λ r. ⌜ writeLeft r (now (octets .exit)) ≡ writeCall (now (message .entry)) (now (octets .entry)) ⌝ }
 {
-    framewrite::write(message, octets)
+    face_frame_write::write(message, octets)
 }
 
 // A head that has not begun, over as many links as are lent.
@@ -133,7 +133,7 @@ pub extern "C" fn crustnewt_head_fresh(
 ) -> u8
     ensures { λ r. ⌜ begunLeft r (now (head .exit)) (now (links .exit)) (now (reply .exit)) ≡ begunOf (record { 0 = address }) (now (head .entry)) (now (links .entry)) (now (reply .entry)) ⌝ }
 {
-    headcall::begun(Address(address), head, links, reply)
+    face_head_calls::begun(Address(address), head, links, reply)
 }
 
 // The client opens a discovery window.
@@ -150,7 +150,7 @@ pub extern "C" fn crustnewt_head_open(
 ) -> u8
     ensures { λ r. ⌜ headLeft r (now (head .exit)) (now (links .exit)) (now (output .exit)) (now (reply .exit)) ≡ servedOf (Requested.Open (record { 0 = start }) (record { 0 = length }) (record { 0 = sync }) (record { 0 = window })) (now (head .entry)) (now (links .entry)) (now (output .entry)) (now (reply .entry)) ⌝ }
 {
-    headcall::served(
+    face_head_calls::served(
         Request::Open {
             start: Count(start),
             length: Quanta(length),
@@ -177,7 +177,7 @@ pub extern "C" fn crustnewt_head_admit(
 ) -> u8
     ensures { λ r. ⌜ headLeft r (now (head .exit)) (now (links .exit)) (now (output .exit)) (now (reply .exit)) ≡ servedOf (Requested.Admit (record { 0 = address }) pending (record { 0 = sync })) (now (head .entry)) (now (links .entry)) (now (output .entry)) (now (reply .entry)) ⌝ }
 {
-    headcall::served(
+    face_head_calls::served(
         Request::Admit {
             address: Address(address),
             pending,
@@ -203,7 +203,7 @@ pub extern "C" fn crustnewt_head_reject(
 ) -> u8
     ensures { λ r. ⌜ headLeft r (now (head .exit)) (now (links .exit)) (now (output .exit)) (now (reply .exit)) ≡ servedOf (Requested.Reject (record { 0 = address }) pending (record { 0 = sync })) (now (head .entry)) (now (links .entry)) (now (output .entry)) (now (reply .entry)) ⌝ }
 {
-    headcall::served(
+    face_head_calls::served(
         Request::Reject {
             address: Address(address),
             pending,
@@ -228,7 +228,7 @@ pub extern "C" fn crustnewt_head_reregister(
 ) -> u8
     ensures { λ r. ⌜ headLeft r (now (head .exit)) (now (links .exit)) (now (output .exit)) (now (reply .exit)) ≡ servedOf (Requested.Reregister link (record { 0 = sync })) (now (head .entry)) (now (links .entry)) (now (output .entry)) (now (reply .entry)) ⌝ }
 {
-    headcall::served(
+    face_head_calls::served(
         Request::Reregister {
             link,
             sync: Quanta(sync),
@@ -251,7 +251,7 @@ pub extern "C" fn crustnewt_head_deregister(
 ) -> u8
     ensures { λ r. ⌜ headLeft r (now (head .exit)) (now (links .exit)) (now (output .exit)) (now (reply .exit)) ≡ servedOf (Requested.Deregister link) (now (head .entry)) (now (links .entry)) (now (output .entry)) (now (reply .entry)) ⌝ }
 {
-    headcall::served(Request::Deregister { link }, head, links, output, reply)
+    face_head_calls::served(Request::Deregister { link }, head, links, output, reply)
 }
 
 // The client sends a GATE, one word a grant.
@@ -267,8 +267,8 @@ pub extern "C" fn crustnewt_head_gate(
 ) -> u8
     ensures { λ r. ⌜ headLeft r (now (head .exit)) (now (links .exit)) (now (output .exit)) (now (reply .exit)) ≡ servedOf (Requested.Gate link (askedOf (now (grants .entry)) force)) (now (head .entry)) (now (links .entry)) (now (output .entry)) (now (reply .entry)) ⌝ }
 {
-    let asked = headcall::asked(grants, force);
-    headcall::served(Request::Gate { link, asked }, head, links, output, reply)
+    let asked = face_head_calls::asked(grants, force);
+    face_head_calls::served(Request::Gate { link, asked }, head, links, output, reply)
 }
 
 // The octets of a frame that came on a link, read and heard.
@@ -283,7 +283,7 @@ pub extern "C" fn crustnewt_head_hear(
 ) -> u8
     ensures { λ r. ⌜ headLeft r (now (head .exit)) (now (links .exit)) (now (output .exit)) (now (reply .exit)) ≡ headHeard link (now (octets .entry)) (now (head .entry)) (now (links .entry)) (now (output .entry)) (now (reply .entry)) ⌝ }
 {
-    headcall::heard(link, octets, head, links, output, reply)
+    face_head_calls::heard(link, octets, head, links, output, reply)
 }
 
 // One quantum has passed.
@@ -296,7 +296,7 @@ pub extern "C" fn crustnewt_head_tick(
 ) -> u8
     ensures { λ r. ⌜ headLeft r (now (head .exit)) (now (links .exit)) (now (output .exit)) (now (reply .exit)) ≡ servedOf Requested.Tick (now (head .entry)) (now (links .entry)) (now (output .entry)) (now (reply .entry)) ⌝ }
 {
-    headcall::tick(head, links, output, reply)
+    face_head_calls::tick(head, links, output, reply)
 }
 
 // Quanta have passed: ticks until so many are made or one hands out a frame, and how many were made.
@@ -311,7 +311,7 @@ pub extern "C" fn crustnewt_head_advance(
 ) -> u8
     ensures { λ r. ⌜ headAdvanceLeft (headLeft r (now (head .exit)) (now (links .exit)) (now (output .exit)) (now (reply .exit))) (now (made .exit)) ≡ headAdvance ticks (now (head .entry)) (now (links .entry)) (now (output .entry)) (now (reply .entry)) (now (made .entry)) ⌝ }
 {
-    headcall::advance(ticks, head, links, output, reply, made)
+    face_head_calls::advance(ticks, head, links, output, reply, made)
 }
 
 // How many ticks from now hand out nothing.
@@ -319,5 +319,5 @@ pub extern "C" fn crustnewt_head_advance(
 pub extern "C" fn crustnewt_head_ticks_until(head: &[u64], links: &[u64]) -> u64
     ensures { λ r. ⌜ r ≡ headUntil (now (head .entry)) (now (links .entry)) ⌝ }
 {
-    headcall::ticks_until(head, links)
+    face_head_calls::ticks_until(head, links)
 }

@@ -2,9 +2,9 @@
 ghost use Prim.Native.Nat.{_≤_};
 use clock::Count;
 use frame::Address;
-use gating::Asked;
-use gating::Leave;
-use judging::Request;
+use head_gating::Asked;
+use head_gating::Leave;
+use head_judging::Request;
 use script::messages;
 use script::words;
 use script::words::Numbers;

@@ -5,7 +5,7 @@ use crate::run;
 use crate::state::Desk;
 use bytes::scan;
 use frame::Address;
-use judging::Request;
+use head_judging::Request;
 use script::messages;
 use script::words;
 use script::words::Numbers;

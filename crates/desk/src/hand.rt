@@ -3,10 +3,10 @@ use crate::state::Desk;
 use clock::Count;
 use clock::Timer;
 use frame::Address;
-use head::Head;
-use head::Window;
-use links::Link;
-use links::State;
+use head_links::Link;
+use head_links::State;
+use head_state::Head;
+use head_state::Window;
 use script::messages;
 
 fn timer(n: u64) -> Timer {

@@ -1,15 +1,15 @@
 // The head's calls, each with what is shown of it.
 use crate::state::Desk;
 use crate::tell;
-use face::Served;
+use desk_table::Served;
 use frame::Address;
 use frame::Reply;
-use head::Head;
-use head::Window;
-use judging::Request;
-use links::Link;
+use head_calls::Answer;
+use head_judging::Request;
+use head_links::Link;
+use head_state::Head;
+use head_state::Window;
 use script::out;
-use serving::Answer;
 
 fn tell_number(reply: Reply) {
     out::text(b" ->");
@@ -27,7 +27,7 @@ fn tell_answer(answer: Answer, before: [Link; 3], after: [Link; 3]) {
 
 pub fn fresh(desk: Desk, address: Address) -> Desk {
     let before = desk.links;
-    let begun = face::fresh(address, before);
+    let begun = desk_table::fresh(address, before);
     let answer = begun.answer;
     let links = begun.links;
     let head = answer.next;
@@ -43,7 +43,7 @@ fn serve(desk: Desk, request: Request) -> Served {
     let head = desk.head;
     let links = desk.links;
     let out = desk.out;
-    face::serve(head, links, request, out, desk.lent)
+    desk_table::serve(head, links, request, out, desk.lent)
 }
 
 fn tell_served(before: [Link; 3], served: Served) {

@@ -1,8 +1,8 @@
 // What stands between two calls: the head, its table, its output, and how much of the output is lent.
-use face::Served;
+use desk_table::Served;
 use frame::Address;
-use head::Head;
-use links::Link;
+use head_links::Link;
+use head_state::Head;
 
 pub struct Desk {
     pub head: Head,
@@ -17,7 +17,7 @@ impl Desk {
 
     // Before the first fresh head there is a refused one.
     pub fn first() -> Desk {
-        let begun = face::fresh(Address(0), [Link::idle(); 3]);
+        let begun = desk_table::fresh(Address(0), [Link::idle(); 3]);
         let answer = begun.answer;
         let head = answer.next;
         let links = begun.links;

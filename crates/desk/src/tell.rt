@@ -2,12 +2,12 @@
 use clock::Timer;
 use frame::Message;
 use frame::Reply;
-use head::Head;
-use head::Window;
-use links::Link;
-use links::State;
-use plans::Kind;
-use plans::Notice;
+use head_links::Link;
+use head_links::State;
+use head_plans::Kind;
+use head_plans::Notice;
+use head_state::Head;
+use head_state::Window;
 use script::frames;
 use script::out;
 
@@ -137,7 +137,7 @@ fn tell_message(message: Message) {
 
 // As the reader of frames reads it.
 fn tell_frame(octets: &[u8]) {
-    let reading = reader::read(octets);
+    let reading = frame_reader::read(octets);
     let reply = reading.reply;
     let message = reading.message;
     if let Reply::Done = reply {

@@ -1,9 +1,9 @@
 // A box that is handed in again with one part of it changed.
 use crate::calls::Part;
+use box_calls::FloorBox;
+use box_light::Light;
+use box_processes::Processes;
 use clock::Timer;
-use floorbox::FloorBox;
-use light::Light;
-use processes::Processes;
 
 fn with_processes(b: FloorBox, processes: Processes) -> FloorBox {
     let address = b.address;

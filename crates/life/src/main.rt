@@ -4,9 +4,9 @@ mod hand;
 mod run;
 mod tell;
 
+use box_calls::Answer;
+use box_calls::FloorBox;
 use bytes::scan;
-use floorbox::Answer;
-use floorbox::FloorBox;
 use frame::Address;
 use libc::STDERR_FILENO;
 use libc::STDIN_FILENO;

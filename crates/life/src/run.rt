@@ -5,18 +5,18 @@ use crate::calls::Call;
 use crate::calls::Look;
 use crate::hand;
 use crate::tell;
+use box_calls::Answer;
+use box_calls::FloorBox;
+use box_telling::Frames;
+use box_telling::Notice;
+use box_telling::Notices;
 use bytes::scan;
-use floorbox::Answer;
-use floorbox::FloorBox;
 use frame::Address;
 use frame::Reply;
 use script::messages;
 use script::out;
 use script::words;
 use script::words::Numbers;
-use telling::Frames;
-use telling::Notice;
-use telling::Notices;
 
 const LONGEST_FRAME: usize = 2048;
 

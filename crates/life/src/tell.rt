@@ -1,16 +1,16 @@
 // What a box answers, in words.
+use box_calls::Answer;
+use box_calls::FloorBox;
+use box_light::Light;
+use box_registration::State;
+use box_telling::Frames;
+use box_telling::Notice;
+use box_telling::Notices;
 use clock::Timer;
-use floorbox::Answer;
-use floorbox::FloorBox;
 use frame::Grant;
 use frame::Reply;
-use light::Light;
-use registration::State;
 use script::frames;
 use script::out;
-use telling::Frames;
-use telling::Notice;
-use telling::Notices;
 
 // The light's phase, by number, so that two can be compared.
 pub fn phase(light: Light) -> u8 {
@@ -120,7 +120,7 @@ fn tell_notices(notices: Notices) {
 
 // As the reader of frames reads it.
 fn tell_frame(octets: [u8; 60]) {
-    let reading = reader::read(&octets);
+    let reading = frame_reader::read(&octets);
     let reply = reading.reply;
     let message = reading.message;
     if let Reply::Done = reply {

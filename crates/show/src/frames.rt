@@ -140,7 +140,7 @@ fn show_refused(destination: Address, source: Address, body: Body) {
         timestamp: Count(1),
         body,
     };
-    let writing = writer::write(m);
+    let writing = frame_writer::write(m);
     let reply = writing.reply;
     out::text(b"write");
     out::number(reply.number() as u64);
@@ -175,14 +175,14 @@ fn show_out_of_range() {
 }
 
 fn show_reading(octets: &[u8]) {
-    let reading = reader::read(octets);
+    let reading = frame_reader::read(octets);
     let reply = reading.reply;
     out::text(b"read");
     out::number(reply.number() as u64);
     if let Reply::Done = reply {
         let message = reading.message;
         show_message(message);
-        show_frame(writer::write(message));
+        show_frame(frame_writer::write(message));
     }
 }
 

@@ -1,0 +1,42 @@
+-- Document 01, "Activation", at the end of every call.
+-- Assumes nothing.
+use mathlib.Core.Bool.{cond, _&&_}
+use lib.Dec.{eqb}
+use Rattle.clock.specs.Counts.{reach}
+use Rattle.clock.specs.Numbers.{needed}
+use Rattle.clock.specs.declared.Quanta.{Quanta}
+use Rattle.clock.specs.declared.Reach.{Reach}
+use Rattle.clock.specs.declared.Reach.the-variants.{Past, Ahead}
+use Rattle.box_grants.specs.Activation.{remove}
+use Rattle.box_grants.specs.Listed.{listOf, packed, chooseOf}
+use Rattle.box_grants.specs.declared.Chosen.{Chosen}
+use Rattle.box_grants.specs.declared.Chosen.the-variants.{Nothing, Due}
+use Rattle.box_grants.specs.declared.Entry.{Entry}
+use Rattle.box_light.specs.Light.{laserOnFor, atRest}
+use Rattle.box_light.specs.declared.Light.{Light}
+use Rattle.box_registration.specs.Registration.{isRegistered}
+use Rattle.box_processes.specs.Parts.{withList, withLight}
+use Rattle.box_processes.specs.declared.Processes.{Processes}
+
+-- laser on, removed from the list
+unfoldable pub lightUp : Processes → Entry → Quanta → Processes
+lightUp p e sync = withLight (withList p (packed (remove e (listOf (p .list))))) (Light.Lit (laserOnFor sync) (e .length) sync)
+
+-- wait the distance; waits of 0 are passed in the same call
+unfoldable pub begin : Processes → Entry → Quanta → Quanta → Processes
+begin p e sync wait = cond (eqb (wait .0) 0) (lightUp p e sync) (withLight p (Light.Due (record { left = wait .0 }) e sync))
+
+abbrev pub headFor : Processes → Entry → Quanta → Reach → Processes
+headFor p e sync Past = p
+headFor p e sync (Ahead wait) = begin p e sync wait
+
+-- the sync held at this choice serves this grant to its end
+abbrev pub serve : Chosen → Processes → Processes
+serve Nothing p = p
+serve (Due e) p = headFor p e (p .registration .sync) (reach (p .count .0) (e .start .0))
+
+-- when at rest and REGISTERED
+unfoldable pub activate : Processes → Processes
+activate p =
+    let c = chooseOf (p .count .0) (needed (p .registration .sync .0)) (p .list) in
+    cond (atRest (p .light) && isRegistered (p .registration .state)) (serve (c .chosen) (withList p (c .list))) p

@@ -1,0 +1,56 @@
+-- Document 01, "Steps of the box": a fresh box, the client's two requests, and a tick; 13 comes first and 14 last.
+-- Assumes nothing.
+use mathlib.Core.Bool.{Bool, cond, _&&_}
+use mathlib.Core.List.{[], _∷_}
+use lib.IntN.{pos}
+use Rattle.frame.specs.Card.{_unless_, given}
+use Rattle.frame.specs.declared.Address.{Address}
+use Rattle.frame.specs.declared.Reply.the-variants.{Done, Range, State, Unsound, Window}
+use Rattle.frame_range.specs.Fits.{isIndividual}
+use Rattle.box_registration.specs.Registration.{registering, isWaiting, isRegistered}
+use Rattle.box_processes.specs.Parts.{fresh, withRegistration, still}
+use Rattle.box_processes.specs.Sound.{soundOf as processesSound}
+use Rattle.box_ticking.specs.Tick.{localDeregister, tickOf as processesTick}
+use Rattle.box_calls.specs.Answer.{bare, refused, accepted}
+use Rattle.box_calls.specs.declared.FloorBox.{FloorBox}
+use Rattle.box_calls.specs.declared.Answer.{Answer}
+
+-- own addresses are individual and nonzero
+unfoldable pub soundOf : FloorBox → Bool
+soundOf b = isIndividual (b .address) && processesSound (b .processes)
+
+-- a fresh state asked for with another address is 4 and holds address zero
+unfoldable pub freshOf : Address → Answer
+freshOf a =
+    cond (isIndividual a)
+    (bare (record { address = a; processes = fresh }) Done)
+    (refused (record { address = record { 0 = 0 }; processes = fresh }) Range)
+
+-- register in WAIT goes to REGISTERING; else 7
+unfoldable pub registerOf : FloorBox → Answer
+registerOf b =
+    let p = b .processes in
+    given
+    (Unsound unless soundOf b
+    ∷ State unless isWaiting (p .registration .state)
+    ∷ [])
+    (refused b) (accepted b (pos 0) (still (withRegistration p (registering (p .registration)))))
+
+-- deregister in REGISTERED goes to LOCAL DEREGISTER; else 7
+unfoldable pub deregisterOf : FloorBox → Answer
+deregisterOf b =
+    let p = b .processes in
+    given
+    (Unsound unless soundOf b
+    ∷ State unless isRegistered (p .registration .state)
+    ∷ [])
+    (refused b) (accepted b (pos 0) (localDeregister p))
+
+unfoldable pub tickOf : FloorBox → Answer
+tickOf b =
+    let s = processesTick (b .processes) in
+    given
+    (Unsound unless soundOf b
+    ∷ Window unless s .ok
+    ∷ [])
+    (refused b) (accepted b (pos 0) s)

@@ -1,0 +1,40 @@
+-- Document 01, "Next to send". A slice is where it stands and the octets in it; which is lent is told by where it stands.
+-- Assumes nothing.
+use Prim.Native.Nat.{ℕ}
+use mathlib.Core.Bool.{Bool, cond, _&&_}
+use mathlib.Core.List.{List, []}
+use denote.Ref.{RefT}
+use lib.Dec.{eqb, leb, ltb}
+use lib.ListN.{length}
+use Rattle.clock.specs.Numbers.{quantaOf}
+use Rattle.box_light.specs.declared.Light.{Light}
+use Rattle.box_light.specs.declared.Light.the-variants.{Rest, Before, Random, Warming, Asking, Due, Lit, Open}
+use Rattle.box_registration.specs.Registration.{isRegistered}
+use Rattle.box_calls.specs.declared.FloorBox.{FloorBox}
+
+-- the window's remaining ticks; nothing fits while transmission is disabled
+abbrev pub remaining : Light → ℕ
+remaining (Asking t) = t .left
+remaining (Open t) = t .left
+remaining Rest = 0
+remaining (Before t random sync) = 0
+remaining (Random t sync) = 0
+remaining (Warming t) = 0
+remaining (Due t entry sync) = 0
+remaining (Lit t length sync) = 0
+
+-- a frame of n octets fits the remaining ticks
+unfoldable pub fitsIn : ℕ → ℕ → Bool
+fitsIn ticks n = leb (quantaOf n) ticks
+
+-- the control frame if there is one and it fits; the data frame if there is one, no control frame waits, the box is registered and it
+-- fits; else the empty part of the control frame's buffer
+unfoldable pub sendOf : FloorBox → RefT (List ℕ) → RefT (List ℕ) → RefT (List ℕ)
+sendOf b control frame =
+    let p = b .processes in
+    let ticks = remaining (p .light) in
+    let c = length (control .now) in
+    let d = length (frame .now) in
+    cond (ltb 0 c && fitsIn ticks c) control
+    (cond (eqb c 0 && ltb 0 d && isRegistered (p .registration .state) && fitsIn ticks d) frame
+    (record { ptr = control .ptr; name = control .name; now = [] }))

@@ -1,0 +1,15 @@
+-- Document 01, "Sound box: at most 16 grants". A length is sixteen bits on the wire, so a longer one came from no frame and is unsound.
+-- Assumes nothing.
+use mathlib.Core.Bool.{Bool, true, _&&_}
+use mathlib.Core.List.{List, [], _∷_}
+use lib.Dec.{leb}
+use Rattle.box_grants.specs.Listed.{listOf}
+use Rattle.box_grants.specs.declared.Entry.{Entry}
+use Rattle.box_grants.specs.declared.GrantList.{GrantList}
+
+abbrev pub inRange : List Entry → Bool
+inRange [] = true
+inRange (e ∷ l) = leb (e .length .0) 65535 && inRange l
+
+unfoldable pub soundOf : GrantList → Bool
+soundOf s = leb (s .number) 16 && inRange (listOf s)

@@ -1,0 +1,37 @@
+-- Document 01, "Discovery GATE": acts only in REGISTERING with the transmitter at rest.
+-- Assumes nothing.
+use Prim.Native.Nat.{ℕ}
+use mathlib.Core.Bool.{Bool, cond, _&&_}
+use lib.Dec.{eqb}
+use Rattle.clock.specs.Counts.{reach}
+use Rattle.clock.specs.Numbers.{startInRange, serves, randomWait}
+use Rattle.clock.specs.declared.Quanta.{Quanta}
+use Rattle.clock.specs.declared.Reach.{Reach}
+use Rattle.clock.specs.declared.Reach.the-variants.{Past, Ahead}
+use Rattle.frame.specs.declared.Grant.{Grant}
+use Rattle.box_light.specs.Light.{atRest, randomly}
+use Rattle.box_light.specs.declared.Light.{Light}
+use Rattle.box_light.specs.declared.Light.the-variants.{Rest, Before}
+use Rattle.box_registration.specs.Registration.{isRegistering}
+use Rattle.box_processes.specs.Parts.{withLight}
+use Rattle.box_processes.specs.declared.Processes.{Processes}
+
+-- the caller's random number modulo (length - needed + 1), or 0 if sent to the box's own address
+unfoldable pub randomFor : Bool → ℕ → Quanta → Quanta → Quanta
+randomFor own random length sync = record { 0 = cond own 0 (randomWait random (length .0) (sync .0)) }
+
+-- wait the distance, then the random wait; a wait of 0 is passed in the same call
+abbrev pub called : Reach → Quanta → Quanta → Light
+called Past random sync = Rest
+called (Ahead wait) random sync =
+    cond (eqb (wait .0) 0) (randomly random sync) (Before (record { left = wait .0 }) random sync)
+
+-- if the start's distance is outside 0 .. 62,500,000, or the length is below the needed one, it is passed over
+unfoldable pub discover : Processes → Grant → Quanta → Bool → ℕ → Processes
+discover p grant sync own random =
+    let now = p .count .0 in
+    let start = grant .start .0 in
+    cond
+    (isRegistering (p .registration .state) && atRest (p .light) && (startInRange now start && serves (sync .0) (grant .length .0)))
+    (withLight p (called (reach now start) (randomFor own random (grant .length) sync) sync))
+    p

@@ -1,0 +1,46 @@
+-- Document 01, "Normal GATE": acts only in REGISTERED; "its grants are taken in frame order if the distance is in 0 .. 62,500,000 and the
+-- list has room, each with a notice".
+-- Assumes nothing.
+use Prim.Native.Nat.{ℕ}
+use mathlib.Core.Bool.{true, cond, _&&_}
+use mathlib.Core.List.{List, foldl}
+use lib.Dec.{ltb}
+use Rattle.clock.specs.Numbers.{startInRange}
+use Rattle.frame.specs.declared.Grant.{Grant}
+use Rattle.box_grants.specs.Listed.{pushed}
+use Rattle.box_grants.specs.declared.Entry.{Entry}
+use Rattle.box_registration.specs.Registration.{isRegistered, heard}
+use Rattle.box_telling.specs.Told.{noNotices, added}
+use Rattle.box_telling.specs.declared.Notice.{Notice}
+use Rattle.box_telling.specs.declared.Sent.{Sent}
+use Rattle.box_processes.specs.Parts.{withRegistration, withList, still}
+use Rattle.box_processes.specs.declared.Processes.{Processes}
+use Rattle.box_processes.specs.declared.Step.{Step}
+use Rattle.box_hearing.specs.declared.Taking.{Taking}
+
+-- what the list keeps of a grant
+abbrev pub entryOf : Grant → Entry
+entryOf g = record { start = g .start; length = g .length }
+
+unfoldable pub taken : ℕ → Taking → Grant → Taking
+taken now t g =
+    cond (startInRange now (g .start .0) && ltb (t .list .number) 16)
+    (record { list = pushed (t .list) (entryOf g); notices = added (t .notices) (Notice.Granted g) })
+    t
+
+abbrev pub takenAll : Processes → List Grant → Taking
+takenAll p grants = foldl (taken (p .count .0)) (record { list = p .list; notices = noNotices }) grants
+
+-- it restarts the watchdog
+unfoldable pub gated : Processes → List Grant → Step
+gated p grants =
+    let t = takenAll p grants in
+    cond (isRegistered (p .registration .state))
+    (record {
+      ok = true;
+      next = withList (withRegistration p (heard (p .registration))) (t .list);
+      notices = t .notices;
+      first = Sent.Nothing;
+      second = Sent.Nothing;
+    })
+    (still p)

@@ -1,0 +1,208 @@
+-- A discovery window is on its way only in REGISTERING: every step keeps that, and then no tick is answered 14.
+-- Assumes nothing.
+use Prim.Native.Nat.{ℕ}
+use mathlib.Core.Path.{_≡_, refl, sym, _∙_}
+use mathlib.Core.Bool.{Bool, true, false, _&&_, and-eq-true-iff, false≢true}
+use mathlib.Core.List.{List}
+use lib.Dec.{eqb}
+use Rattle.laws.specs.Cases.{either}
+use Rattle.clock.specs.Counts.{reach, nextOf}
+use Rattle.clock.specs.Numbers.{startInRange, needed, serves}
+use Rattle.clock.specs.Timers.{ticked}
+use Rattle.clock.specs.declared.Quanta.{Quanta}
+use Rattle.clock.specs.declared.Reach.{Reach}
+use Rattle.clock.specs.declared.Reach.the-variants.{Past, Ahead}
+use Rattle.clock.specs.declared.Timer.{Timer}
+use Rattle.frame.specs.Layout.{listed}
+use Rattle.frame.specs.declared.Body.{Body}
+use Rattle.frame.specs.declared.Body.the-variants.{Gate, Discovery, Report, RegisterReq as Request, Register, RegisterAck}
+use Rattle.frame.specs.declared.Grant.{Grant}
+use Rattle.frame.specs.declared.RegisterFlag.{RegisterFlag}
+use Rattle.frame.specs.declared.RegisterFlag.the-variants.{Reregister, Deregister, Ack, Nack}
+use Rattle.box_grants.specs.Listed.{chooseOf}
+use Rattle.box_grants.specs.declared.Chosen.{Chosen}
+use Rattle.box_grants.specs.declared.Chosen.the-variants as chosen
+use Rattle.box_grants.specs.declared.Entry.{Entry}
+use Rattle.box_light.specs.Light.{randomly, atRest, timerOf, withTimer}
+use Rattle.box_light.specs.Tick.{after, tickOf as lightTick}
+use Rattle.box_light.specs.declared.Beam.{Beam}
+use Rattle.box_light.specs.declared.Light.{Light}
+use Rattle.box_light.specs.declared.Light.the-variants.{Rest, Before, Random, Warming, Asking, Due, Lit, Open}
+use Rattle.box_light.specs.declared.LightTicked.{LightTicked}
+use Rattle.box_registration.specs.Registration.{isRegistered, isRegistering}
+use Rattle.box_registration.specs.Tick.{tickOf as registrationTick}
+use Rattle.box_registration.specs.declared.Bell.{Bell}
+use Rattle.box_registration.specs.declared.Registration.{Registration}
+use Rattle.box_registration.specs.declared.State.{State}
+use Rattle.box_registration.specs.declared.State.the-variants.{Wait, Registering, RegisterReq, Registered}
+use Rattle.box_processes.specs.Parts.{withCount, withRegistration, withList, withLight}
+use Rattle.box_processes.specs.declared.Processes.{Processes}
+use Rattle.box_processes.specs.declared.Step.{Step}
+use Rattle.box_activation.specs.Activation.{lightUp, begin, headFor, serve, activate}
+use Rattle.box_ticking.specs.Tick.{ring, shine, timed, transmitted, tickOf}
+use Rattle.box_hearing.specs.Discovery.{randomFor, called, discover}
+use Rattle.box_hearing.specs.Gate.{gated}
+use Rattle.box_hearing.specs.Hear.{hearOf}
+use Rattle.box_hearing.specs.Register.{registerOf}
+use Rattle.box_laws.specs.Tick.{Says, bell-says}
+
+-- a window is on its way while it is waited for, or its laser on
+abbrev pub Awaited : Light → State → Type 0
+Awaited Rest s = Unit {0}
+Awaited (Before t random sync) s = isRegistering s ≡ true
+Awaited (Random t sync) s = isRegistering s ≡ true
+Awaited (Warming t) s = isRegistering s ≡ true
+Awaited (Asking t) s = Unit {0}
+Awaited (Due t entry sync) s = Unit {0}
+Awaited (Lit t length sync) s = Unit {0}
+Awaited (Open t) s = Unit {0}
+
+-- of the box
+abbrev pub Calm : Processes → Type 0
+Calm p = Awaited (p .light) (p .registration .state)
+
+-- in REGISTERING any phase may be, and where another state was none is on its way
+pub any-awaited : (l : Light) (s : State) → isRegistering s ≡ true → Awaited l s
+any-awaited Rest s h = tt
+any-awaited (Before t random sync) s h = h
+any-awaited (Random t sync) s h = h
+any-awaited (Warming t) s h = h
+any-awaited (Asking t) s h = tt
+any-awaited (Due t entry sync) s h = tt
+any-awaited (Lit t length sync) s h = tt
+any-awaited (Open t) s h = tt
+
+none-awaited : (l : Light) (s t : State) → isRegistering s ≡ false → Awaited l s → Awaited l t
+none-awaited Rest s t e h = tt
+none-awaited (Before u random sync) s t e h = absurd (false≢true (sym e ∙ h))
+none-awaited (Random u sync) s t e h = absurd (false≢true (sym e ∙ h))
+none-awaited (Warming u) s t e h = absurd (false≢true (sym e ∙ h))
+none-awaited (Asking u) s t e h = tt
+none-awaited (Due u entry sync) s t e h = tt
+none-awaited (Lit u length sync) s t e h = tt
+none-awaited (Open u) s t e h = tt
+
+-- activation waits for grants alone
+begin-calm : (p : Processes) (e : Entry) (sync wait : Quanta) → Calm (begin p e sync wait)
+unfolding begin lightUp
+begin-calm p e sync wait = either Calm (eqb (wait .0) 0) _ _ (λ _. tt) (λ _. tt)
+
+head-calm : (r : Reach) (p : Processes) (e : Entry) (sync : Quanta) → Calm p → Calm (headFor p e sync r)
+head-calm Past p e sync h = h
+head-calm (Ahead wait) p e sync h = begin-calm p e sync wait
+
+serve-calm : (c : Chosen) (p : Processes) → Calm p → Calm (serve c p)
+serve-calm chosen.Nothing p h = h
+serve-calm (chosen.Due e) p h = head-calm (reach (p .count .0) (e .start .0)) p e (p .registration .sync) h
+
+pub activate-calm : (p : Processes) → Calm p → Calm (activate p)
+unfolding activate
+activate-calm p h =
+    let c = chooseOf (p .count .0) (needed (p .registration .sync .0)) (p .list) in
+    either Calm (atRest (p .light) && isRegistered (p .registration .state)) _ _ (λ _. serve-calm (c .chosen) (withList p (c .list)) h) (λ _. h)
+
+-- a tick of the registration
+ring-calm : (bell : Bell) (p : Processes) (r : Registration) → Calm p → Says bell (p .registration .state) (r .state)
+    → Calm (ring bell (withRegistration p r) .next)
+ring-calm Bell.Quiet p r h e = rw e h
+ring-calm Bell.Retry p r h e = none-awaited (p .light) (p .registration .state) (r .state) (rw (e .0)) h
+ring-calm Bell.Lost p r h e = tt
+ring-calm Bell.Report p r h e = rw e h
+
+pub timed-calm : (p : Processes) → Calm p → Calm (timed p .next)
+unfolding timed
+timed-calm p h =
+    let t = registrationTick (p .registration) in
+    ring-calm (t .bell) (withCount p (nextOf (p .count))) (t .registration) h (bell-says (p .registration))
+
+-- a tick of the transmitter: a window that opens was on its way
+abbrev pub Brings : Beam → Light → State → Type 0
+Brings Beam.Quiet l s = Awaited l s
+Brings Beam.Window l s = (isRegistering s ≡ true) × Awaited l RegisterReq
+Brings (Beam.Start entry sync) l s = Unit {0}
+Brings Beam.Opened l s = Awaited l s
+Brings Beam.Closed l s = Awaited l s
+
+after-brings : (l : Light) (s : State) → Awaited l s → Brings (after l .beam) (after l .light) s
+unfolding randomly
+after-brings Rest s h = tt
+after-brings (Before t random sync) s h = either (λ (l : Light). Awaited l s) (eqb (random .0) 0) _ _ (λ _. h) (λ _. h)
+after-brings (Random t sync) s h = h
+after-brings (Warming t) s h = (h, tt)
+after-brings (Asking t) s h = tt
+after-brings (Due t entry sync) s h = tt
+after-brings (Lit t length sync) s h = tt
+after-brings (Open t) s h = tt
+
+timer-awaited : (l : Light) (u : Timer) (s : State) → Awaited l s → Awaited (withTimer l u) s
+timer-awaited Rest u s h = tt
+timer-awaited (Before t random sync) u s h = h
+timer-awaited (Random t sync) u s h = h
+timer-awaited (Warming t) u s h = h
+timer-awaited (Asking t) u s h = tt
+timer-awaited (Due t entry sync) u s h = tt
+timer-awaited (Lit t length sync) u s h = tt
+timer-awaited (Open t) u s h = tt
+
+pub tick-brings : (l : Light) (s : State) → Awaited l s → Brings (lightTick l .beam) (lightTick l .light) s
+unfolding lightTick
+tick-brings l s h =
+    let t = ticked (timerOf l) in
+    either (λ (x : LightTicked). Brings (x .beam) (x .light) s) (t .rang) _ _ (λ _. after-brings l s h) (λ _. timer-awaited l (t .timer) s h)
+
+shine-calm : (beam : Beam) (p : Processes) → Brings beam (p .light) (p .registration .state)
+    → (shine beam p .ok ≡ true) × Calm (shine beam p .next)
+unfolding lightUp
+shine-calm Beam.Quiet p h = (refl, h)
+shine-calm Beam.Window p h = h
+shine-calm (Beam.Start entry sync) p h = (refl, tt)
+shine-calm Beam.Opened p h = (refl, h)
+shine-calm Beam.Closed p h = (refl, h)
+
+transmitted-calm : (p : Processes) → Calm p → (transmitted p .ok ≡ true) × Calm (transmitted p .next)
+unfolding transmitted
+transmitted-calm p h =
+    let t = lightTick (p .light) in
+    shine-calm (t .beam) (withLight p (t .light)) (tick-brings (p .light) (p .registration .state) h)
+
+pub tick-calm : (p : Processes) → Calm p → (tickOf p .ok ≡ true) × Calm (tickOf p .next)
+unfolding tickOf
+tick-calm p h = transmitted-calm (timed p .next) (timed-calm p h)
+
+-- a message
+gated-calm : (p : Processes) (gs : List Grant) → Calm p → Calm (gated p gs .next)
+unfolding gated
+gated-calm p gs h = either (λ (x : Step). Calm (x .next)) (isRegistered (p .registration .state)) _ _ (λ _. h) (λ _. h)
+
+discover-calm : (p : Processes) (grant : Grant) (sync : Quanta) (own : Bool) (random : ℕ) → Calm p → Calm (discover p grant sync own random)
+unfolding discover
+discover-calm p grant sync own random h =
+    let r = isRegistering (p .registration .state) in
+    let x = atRest (p .light) in
+    let fits = startInRange (p .count .0) (grant .start .0) && serves (sync .0) (grant .length .0) in
+    either Calm (r && x && fits) _ _
+    (λ t.
+    let l = called (reach (p .count .0) (grant .start .0)) (randomFor own random (grant .length) sync) sync in
+    any-awaited l (p .registration .state) (and-eq-true-iff r x .0 (and-eq-true-iff (r && x) fits .0 t .0) .0))
+    (λ _. h)
+
+register-calm : (t : State) (flag : RegisterFlag) (p : Processes) (port : ℕ) (sync : Quanta) → p .registration .state ≡ t → Calm p
+    → Calm (registerOf t flag p port sync .next)
+register-calm RegisterReq Ack p port sync e h = none-awaited (p .light) (p .registration .state) Registered (rw e) h
+register-calm RegisterReq Nack p port sync e h = tt
+register-calm RegisterReq Reregister p port sync e h = h
+register-calm RegisterReq Deregister p port sync e h = h
+register-calm Registered Reregister p port sync e h = none-awaited (p .light) (p .registration .state) Registered (rw e) h
+register-calm Registered Deregister p port sync e h = tt
+register-calm Registered Ack p port sync e h = h
+register-calm Registered Nack p port sync e h = h
+register-calm Wait flag p port sync e h = h
+register-calm Registering flag p port sync e h = h
+
+pub hear-calm : (body : Body) (p : Processes) (own : Bool) (random : ℕ) → Calm p → Calm (hearOf body p own random .next)
+hear-calm (Gate grants) p own random h = gated-calm p (listed grants) h
+hear-calm (Discovery grant sync) p own random h = discover-calm p grant sync own random h
+hear-calm (Register port flag sync pending) p own random h = register-calm (p .registration .state) flag p port sync refl h
+hear-calm Report p own random h = h
+hear-calm (Request flag pending) p own random h = h
+hear-calm (RegisterAck flag port sync) p own random h = h

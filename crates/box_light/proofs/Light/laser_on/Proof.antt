@@ -1,0 +1,16 @@
+-- `box_light::Light::laser_on` meets its promise.
+-- Assumes nothing.
+use borrow.Author.Needs.{needs}
+use Rattle.box_light.specs.Light.{laserOnFor}
+use Rattle.box_light.proofs.Light.laser_on.Statement.{statement}
+use Rattle.box_light.proofs.Light.laser_on.Tie as tie
+
+wrapping-add-u32-requires : tie.Need-wrapping-add-u32-requires
+wrapping-add-u32-requires c κs = search needs
+
+returns : tie.Need-returns
+unfolding laserOnFor
+returns c = rw (c .wrapping-add-u32 .ensures)
+
+pub laser-on-spec : {M : Type 1} → statement M
+laser-on-spec = tie.close (tie.spec wrapping-add-u32-requires returns)

@@ -1,0 +1,51 @@
+-- `box_light::Light::rest` meets its promise.
+-- Assumes nothing.
+use Prim.Native.Nat.{ℕ, _+_, _-_}
+use mathlib.Core.Path.{_≡_, refl, ap}
+use native.Mathlib.Omega.{arith}
+use borrow.Author.Needs.{needs}
+use Rattle.box_light.specs.Light.{restOf}
+use Rattle.box_light.proofs.Light.rest.Statement.{statement}
+use Rattle.box_light.proofs.Light.rest.Tie as tie
+
+cast-gone : tie.Need-cast-gone
+cast-gone c = search needs
+
+cast-gone-2 : tie.Need-cast-gone-2
+cast-gone-2 c = search needs
+
+add-gone : tie.Need-add-gone
+add-gone c = search needs
+
+cast-whole : tie.Need-cast-whole
+cast-whole c = search needs
+
+cast-t10 : tie.Need-cast-t10
+cast-t10 c = search needs
+
+returns : tie.Need-returns
+unfolding restOf
+returns c = refl
+
+stopped-requires : tie.Need-stopped-requires
+stopped-requires c κs = search needs
+
+returns-2 : tie.Need-returns-2
+unfolding restOf
+returns-2 c =
+    let a = c .before .before .before .before .before .args in
+    let none : 0 ≡ a .length .0 - (32 + a .sync .0) = omega arith in
+    rw (c .stopped .ensures) (ap (λ (n : ℕ). record { left = n }) none)
+
+pub rest-spec : {M : Type 1} → statement M
+rest-spec =
+    tie.close
+    (tie.spec
+    cast-gone
+    cast-gone-2
+    add-gone
+    cast-whole
+    cast-t10
+    returns
+    stopped-requires
+    returns-2)

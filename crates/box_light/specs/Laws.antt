@@ -1,0 +1,239 @@
+-- Soundness of the transmitter: each phase is entered soundly, a tick keeps it, and what a tick brings stands on it. And the laws of a jump.
+-- Assumes nothing.
+use Prim.Native.Nat.{ℕ, suc, _+_, _-_, _^_, _≤_, _<_}
+use mathlib.Core.Path.{_≡_, refl}
+use mathlib.Core.Bool.{true, false, _&&_, and-eq-true-iff, false≢true}
+use mathlib.Core.Logic.{_≢_}
+use native.Mathlib.Nat.{mod-lt}
+use native.Mathlib.Omega.{arith}
+use borrow.Author.Tests.{le-leb, leb-true, eqb-false}
+use lib.Dec.{eqb, leb}
+use Rattle.laws.specs.Cases.{either}
+use Rattle.clock.specs.Laws.{runs-in, runs-of, ticked-on, ticked-runs, ticked-quiet, passed-joined, quiet-falls}
+use Rattle.clock.specs.Numbers.{laserOn, furthest, quantaOf, needed, randomWait}
+use Rattle.clock.specs.Timers.{runs, ticked}
+use Rattle.clock.specs.declared.Quanta.{Quanta}
+use Rattle.clock.specs.declared.Timer.{Timer}
+use Rattle.box_grants.specs.Activation.{holds}
+use Rattle.box_grants.specs.Listed.{listOf}
+use Rattle.box_grants.specs.declared.Entry.{Entry}
+use Rattle.box_grants.specs.declared.GrantList.{GrantList}
+use Rattle.box_light.specs.Light.{laserOnFor, restOf, randomly, atRest, timerOf, withTimer}
+use Rattle.box_light.specs.Pass.{passedOf, quietOf}
+use Rattle.box_light.specs.Sound.{waitFits, served, soundOf}
+use Rattle.box_light.specs.Tick.{after, tickOf}
+use Rattle.box_light.specs.declared.Light.{Light}
+use Rattle.box_light.specs.declared.Light.the-variants.{Rest, Before, Random, Warming, Asking, Due, Lit, Open}
+use Rattle.box_light.specs.declared.LightTicked.{LightTicked}
+use Rattle.box_light.specs.declared.Beam.{Beam}
+use Rattle.box_light.specs.declared.Beam.the-variants.{Quiet, Window, Start, Opened, Closed}
+
+-- the tests as facts of numbers, and back
+pub fits-in : (n : ℕ) (sync : Quanta) → waitFits n sync ≡ true → needed (sync .0) + n ≤ 65535
+unfolding waitFits
+fits-in n sync h = leb-true (needed (sync .0) + n) 65535 h
+
+pub fits-of : (n : ℕ) (sync : Quanta) → needed (sync .0) + n ≤ 65535 → waitFits n sync ≡ true
+unfolding waitFits
+fits-of n sync h = le-leb (needed (sync .0) + n) 65535 h
+
+-- the random wait of a grant that serves
+pub random-fits : (random : ℕ) (length sync : Quanta) → needed (sync .0) ≤ length .0 → length .0 ≤ 65535
+    → waitFits (randomWait random (length .0) (sync .0)) sync ≡ true
+random-fits random length sync h k =
+    let below = mod-lt random {m = length .0 - needed (sync .0) + 1} (omega arith) in
+    fits-of (randomWait random (length .0) (sync .0)) sync (omega arith)
+
+pub served-in : (length sync : Quanta) → served length sync ≡ true → (needed (sync .0) ≤ length .0) × (length .0 ≤ 65535)
+unfolding served
+served-in length sync h =
+    let p = and-eq-true-iff (leb (needed (sync .0)) (length .0)) (leb (length .0) 65535) .0 h in
+    (leb-true (needed (sync .0)) (length .0) (p .0), leb-true (length .0) 65535 (p .1))
+
+pub served-of : (length sync : Quanta) → needed (sync .0) ≤ length .0 → length .0 ≤ 65535 → served length sync ≡ true
+unfolding served
+served-of length sync h k = rw (le-leb (needed (sync .0)) (length .0) h, le-leb (length .0) 65535 k)
+
+due-parts : (t : Timer) (entry : Entry) (sync : Quanta) (s : GrantList) → soundOf (Due t entry sync) s ≡ true
+    → (runs t (2 ^ 31 - 1) ≡ true) × (holds entry (listOf s) ≡ true) × (served (entry .length) sync ≡ true)
+due-parts t entry sync s h =
+    let p = and-eq-true-iff (runs t (2 ^ 31 - 1) && holds entry (listOf s)) (served (entry .length) sync) .0 h in
+    let q = and-eq-true-iff (runs t (2 ^ 31 - 1)) (holds entry (listOf s)) .0 (p .0) in
+    (q .0, q .1, p .1)
+
+-- the timers that a phase starts
+on-for : (sync : Quanta) → sync .0 ≤ 65535 → laserOnFor sync .left ≡ laserOn + sync .0
+unfolding laserOnFor
+on-for sync h = omega arith
+
+warming : (n : ℕ) (sync : Quanta) → waitFits n sync ≡ true → runs (laserOnFor sync) (65535 - quantaOf 60) ≡ true
+warming n sync h =
+    let f = fits-in n sync h in
+    let on = on-for sync (omega arith) in
+    runs-of (laserOnFor sync) (65535 - quantaOf 60) (omega arith) (omega arith)
+
+opening : (length sync : Quanta) → served length sync ≡ true → runs (restOf length sync) (65535 - laserOn) ≡ true
+unfolding restOf
+opening length sync h =
+    let f = served-in length sync h in
+    runs-of (record { left = length .0 - (laserOn + sync .0) }) (65535 - laserOn) (omega arith) (omega arith)
+
+-- entering a phase
+module _ (s : GrantList) where
+  pub rest-sound : (l : Light) → atRest l ≡ true → soundOf l s ≡ true
+  rest-sound Rest h = refl
+  rest-sound (Before t random sync) h = absurd (false≢true h)
+  rest-sound (Random t sync) h = absurd (false≢true h)
+  rest-sound (Warming t) h = absurd (false≢true h)
+  rest-sound (Asking t) h = absurd (false≢true h)
+  rest-sound (Due t entry sync) h = absurd (false≢true h)
+  rest-sound (Lit t length sync) h = absurd (false≢true h)
+  rest-sound (Open t) h = absurd (false≢true h)
+
+  pub before-sound : (n : ℕ) (random sync : Quanta) → 1 ≤ n → n ≤ furthest → waitFits (random .0) sync ≡ true
+      → soundOf (Before (record { left = n }) random sync) s ≡ true
+  before-sound n random sync h k f = rw (runs-of (record { left = n }) furthest h k, f)
+
+  pub randomly-sound : (random sync : Quanta) → waitFits (random .0) sync ≡ true → soundOf (randomly random sync) s ≡ true
+  unfolding randomly
+  randomly-sound random sync h =
+      either (λ (l : Light). soundOf l s ≡ true) (eqb (random .0) 0) _ _ (λ _. warming (random .0) sync h)
+      (λ t.
+      let some : random .0 ≢ 0 = eqb-false (random .0) 0 t in
+      let f = fits-in (random .0) sync h in
+      rw (runs-of (record { left = random .0 }) 65535 (omega arith) (omega arith), h))
+
+  pub due-sound : (n : ℕ) (e : Entry) (sync : Quanta) → 1 ≤ n → n < 2 ^ 31 → holds e (listOf s) ≡ true → served (e .length) sync ≡ true
+      → soundOf (Due (record { left = n }) e sync) s ≡ true
+  due-sound n e sync h k i f = rw (runs-of (record { left = n }) (2 ^ 31 - 1) h (omega arith), i, f)
+
+  pub lit-sound : (length sync : Quanta) → served length sync ≡ true → soundOf (Lit (laserOnFor sync) length sync) s ≡ true
+  lit-sound length sync h =
+      let f = served-in length sync h in
+      let on = on-for sync (omega arith) in
+      rw (runs-of (laserOnFor sync) (laserOnFor sync .left) (omega arith) (omega arith), h)
+
+  -- a timer that has rung
+  follows : (l : Light) → soundOf l s ≡ true → soundOf (after l .light) s ≡ true
+  unfolding runs
+  follows Rest h = refl
+  follows (Before t random sync) h = randomly-sound random sync (and-eq-true-iff (runs t furthest) (waitFits (random .0) sync) .0 h .1)
+  follows (Random t sync) h = warming (t .left) sync (and-eq-true-iff (runs t 65535) (waitFits (t .left) sync) .0 h .1)
+  follows (Warming t) h = refl
+  follows (Asking t) h = refl
+  follows (Due t entry sync) h = refl
+  follows (Lit t length sync) h = opening length sync (and-eq-true-iff (runs t (laserOnFor sync .left)) (served length sync) .0 h .1)
+  follows (Open t) h = refl
+
+  -- one that has not: the wait that is left is the shorter
+  waits : (t : Timer) (sync : Quanta) → runs t 65535 ≡ true → waitFits (t .left) sync ≡ true → waitFits (ticked t .timer .left) sync ≡ true
+  waits t sync h f =
+      let p = runs-in t 65535 h in
+      let n = fits-in (t .left) sync f in
+      rw (ticked-on t (p .0)) (fits-of (t .left - 1) sync (omega arith))
+
+  stays : (l : Light) → soundOf l s ≡ true → ticked (timerOf l) .rang ≡ false → soundOf (withTimer l (ticked (timerOf l) .timer)) s ≡ true
+  stays Rest h e = refl
+  stays (Before t random sync) h e =
+      let p = and-eq-true-iff (runs t furthest) (waitFits (random .0) sync) .0 h in
+      rw (ticked-runs t furthest (p .0) e, p .1)
+  stays (Random t sync) h e =
+      let p = and-eq-true-iff (runs t 65535) (waitFits (t .left) sync) .0 h in
+      rw (ticked-runs t 65535 (p .0) e, waits t sync (p .0) (p .1))
+  stays (Warming t) h e = ticked-runs t (65535 - quantaOf 60) h e
+  stays (Asking t) h e = ticked-runs t (quantaOf 60) h e
+  stays (Due t entry sync) h e =
+      let p = due-parts t entry sync s h in
+      rw (ticked-runs t (2 ^ 31 - 1) (p .0) e, p .1, p .2)
+  stays (Lit t length sync) h e =
+      let p = and-eq-true-iff (runs t (laserOnFor sync .left)) (served length sync) .0 h in
+      rw (ticked-runs t (laserOnFor sync .left) (p .0) e, p .1)
+  stays (Open t) h e = ticked-runs t (65535 - laserOn) h e
+
+  pub tick-keeps : (l : Light) → soundOf l s ≡ true → soundOf (tickOf l .light) s ≡ true
+  unfolding tickOf
+  tick-keeps l h =
+      either (λ (t : LightTicked). soundOf (t .light) s ≡ true) (ticked (timerOf l) .rang) _ _ (λ _. follows l h) (stays l h)
+
+  -- a grant whose start has come is in the list, and has the needed length
+  abbrev pub Begins : Beam → Type 0
+  Begins Quiet = Unit {0}
+  Begins Window = Unit {0}
+  Begins (Start e sync) = (holds e (listOf s) ≡ true) × (served (e .length) sync ≡ true)
+  Begins Opened = Unit {0}
+  Begins Closed = Unit {0}
+
+  after-begins : (l : Light) → soundOf l s ≡ true → Begins (after l .beam)
+  after-begins Rest h = tt
+  after-begins (Before t random sync) h = tt
+  after-begins (Random t sync) h = tt
+  after-begins (Warming t) h = tt
+  after-begins (Asking t) h = tt
+  after-begins (Due t entry sync) h =
+      let p = due-parts t entry sync s h in
+      (p .1, p .2)
+  after-begins (Lit t length sync) h = tt
+  after-begins (Open t) h = tt
+
+  pub tick-begins : (l : Light) → soundOf l s ≡ true → Begins (tickOf l .beam)
+  unfolding tickOf
+  tick-begins l h = either (λ (t : LightTicked). Begins (t .beam)) (ticked (timerOf l) .rang) _ _ (λ _. after-begins l h) (λ _. tt)
+
+  pub tick-start : (l : Light) (e : Entry) (sync : Quanta) → soundOf l s ≡ true → tickOf l .beam ≡ Start e sync
+      → (holds e (listOf s) ≡ true) × (served (e .length) sync ≡ true)
+  tick-start l e sync h b = rw b at (tick-begins l h)
+
+-- another list serves as well if it holds what the first does; a transmitter that waits for no grant asks nothing of it
+pub sound-list : (l : Light) (s u : GrantList) → ((e : Entry) → holds e (listOf s) ≡ true → holds e (listOf u) ≡ true)
+    → soundOf l s ≡ true → soundOf l u ≡ true
+sound-list Rest s u f h = h
+sound-list (Before t random sync) s u f h = h
+sound-list (Random t sync) s u f h = h
+sound-list (Warming t) s u f h = h
+sound-list (Asking t) s u f h = h
+sound-list (Due t entry sync) s u f h =
+    let p = due-parts t entry sync s h in
+    rw (p .0, f entry (p .1), p .2)
+sound-list (Lit t length sync) s u f h = h
+sound-list (Open t) s u f h = h
+
+-- a tick before the ring passes
+pub tick-quiet : (l : Light) → 1 ≤ quietOf l → tickOf l ≡ record { light = passedOf l 1; beam = Quiet }
+unfolding tickOf passedOf quietOf
+tick-quiet l q = rw (ticked-quiet (timerOf l) q)
+
+pub passed-sound : (l : Light) (s : GrantList) → soundOf l s ≡ true → 1 ≤ quietOf l → soundOf (passedOf l 1) s ≡ true
+passed-sound l s h q = rw (tick-quiet l q) at (tick-keeps s l h)
+
+pub passed-rest : (l : Light) (k : ℕ) → atRest (passedOf l k) ≡ atRest l
+unfolding passedOf
+passed-rest Rest k = refl
+passed-rest (Before t random sync) k = refl
+passed-rest (Random t sync) k = refl
+passed-rest (Warming t) k = refl
+passed-rest (Asking t) k = refl
+passed-rest (Due t entry sync) k = refl
+passed-rest (Lit t length sync) k = refl
+passed-rest (Open t) k = refl
+
+pub passed-joins : (l : Light) (k : ℕ) → passedOf (passedOf l 1) k ≡ passedOf l (suc k)
+unfolding passedOf
+passed-joins Rest k = refl
+passed-joins (Before t random sync) k = rw (passed-joined t k)
+passed-joins (Random t sync) k = rw (passed-joined t k)
+passed-joins (Warming t) k = rw (passed-joined t k)
+passed-joins (Asking t) k = rw (passed-joined t k)
+passed-joins (Due t entry sync) k = rw (passed-joined t k)
+passed-joins (Lit t length sync) k = rw (passed-joined t k)
+passed-joins (Open t) k = rw (passed-joined t k)
+
+pub quiet-less : (l : Light) → 1 ≤ quietOf l → quietOf l ≤ suc (quietOf (passedOf l 1))
+unfolding quietOf passedOf
+quiet-less Rest h = omega arith
+quiet-less (Before t random sync) h = quiet-falls t h
+quiet-less (Random t sync) h = quiet-falls t h
+quiet-less (Warming t) h = quiet-falls t h
+quiet-less (Asking t) h = quiet-falls t h
+quiet-less (Due t entry sync) h = quiet-falls t h
+quiet-less (Lit t length sync) h = quiet-falls t h
+quiet-less (Open t) h = quiet-falls t h

@@ -1,0 +1,13 @@
+-- Rule A2, "Advance", of the transmitter: ticks at which its timer does not ring take so many from it.
+-- Assumes nothing.
+use Prim.Native.Nat.{ℕ}
+use Rattle.clock.specs.Timers.{passedOf as timerPassed, quietOf as timerQuiet}
+use Rattle.box_light.specs.Light.{timerOf, withTimer}
+use Rattle.box_light.specs.declared.Light.{Light}
+
+unfoldable pub passedOf : Light → ℕ → Light
+passedOf l k = withTimer l (timerPassed (timerOf l) k)
+
+-- the ticks that come before the ring
+unfoldable pub quietOf : Light → ℕ
+quietOf l = timerQuiet (timerOf l)

@@ -1,0 +1,67 @@
+-- Document 01, "Steps of the box": the states, and what entering one does. "Entering WAIT .. stops all timers. Entering any other state
+-- stops each of the wait, watchdog and report timers it doesn't run."
+-- Assumes nothing.
+use Prim.Native.Nat.{ℕ}
+use mathlib.Core.Bool.{Bool, true, false}
+use Rattle.clock.specs.Numbers.{watchdog, periodic, wait}
+use Rattle.clock.specs.declared.Quanta.{Quanta}
+use Rattle.clock.specs.declared.Timer.{Timer}
+use Rattle.box_registration.specs.declared.State.{State}
+use Rattle.box_registration.specs.declared.State.the-variants.{Wait, Registering, RegisterReq, Registered}
+use Rattle.box_registration.specs.declared.Registration.{Registration}
+
+abbrev pub off : Timer
+off = record { left = 0 }
+
+-- a state that runs no timer; port and sync stay what they last were
+abbrev pub entering : State → Registration → Registration
+entering s r = record { state = s; wait = off; watchdog = off; report = off; port = r .port; sync = r .sync }
+
+-- fresh: WAIT
+abbrev pub fresh : Registration
+fresh = record { state = Wait; wait = off; watchdog = off; report = off; port = 0; sync = record { 0 = 0 } }
+
+abbrev pub waiting : Registration → Registration
+waiting r = entering Wait r
+
+abbrev pub registering : Registration → Registration
+registering r = entering Registering r
+
+-- REGISTER_REQ, wait timer
+abbrev pub requesting : Registration → Registration
+requesting r = record { state = RegisterReq; wait = record { left = wait }; watchdog = off; report = off; port = r .port; sync = r .sync }
+
+-- REGISTERED, port and sync kept, watchdog and report timer started
+abbrev pub registered : ℕ → Quanta → Registration
+registered port sync =
+    record {
+      state = Registered;
+      wait = off;
+      watchdog = record { left = watchdog };
+      report = record { left = periodic };
+      port = port;
+      sync = sync;
+    }
+
+-- a normal GATE restarts the watchdog
+abbrev pub heard : Registration → Registration
+heard r =
+    record { state = r .state; wait = r .wait; watchdog = record { left = watchdog }; report = r .report; port = r .port; sync = r .sync }
+
+abbrev pub isWaiting : State → Bool
+isWaiting Wait = true
+isWaiting Registering = false
+isWaiting RegisterReq = false
+isWaiting Registered = false
+
+abbrev pub isRegistered : State → Bool
+isRegistered Wait = false
+isRegistered Registering = false
+isRegistered RegisterReq = false
+isRegistered Registered = true
+
+abbrev pub isRegistering : State → Bool
+isRegistering Wait = false
+isRegistering Registering = true
+isRegistering RegisterReq = false
+isRegistering Registered = false

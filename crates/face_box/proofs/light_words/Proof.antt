@@ -1,0 +1,138 @@
+-- `face_box::light_words` meets its promise.
+-- Assumes nothing.
+use borrow.Author.Needs.{needs}
+use Rattle.face_box.proofs.light_words.Statement.{statement}
+use Rattle.face_box.proofs.light_words.Tie as tie
+
+enum-told : tie.Need-enum-told
+enum-told c = search needs
+
+stopped-requires : tie.Need-stopped-requires
+stopped-requires c κs = search needs
+
+phase-requires : tie.Need-phase-requires
+phase-requires c κs = search needs
+
+enum-known-light : tie.Need-enum-known-light
+enum-known-light c = search needs
+
+cast-phase : tie.Need-cast-phase
+cast-phase c = search needs
+
+cast-phase-2 : tie.Need-cast-phase-2
+cast-phase-2 c = search needs
+
+phase-requires-2 : tie.Need-phase-requires-2
+phase-requires-2 c κs = search needs
+
+enum-known-light-2 : tie.Need-enum-known-light-2
+enum-known-light-2 c = search needs
+
+cast-phase-3 : tie.Need-cast-phase-3
+cast-phase-3 c = search needs
+
+phase-requires-3 : tie.Need-phase-requires-3
+phase-requires-3 c κs = search needs
+
+enum-known-light-3 : tie.Need-enum-known-light-3
+enum-known-light-3 c = search needs
+
+phase-requires-4 : tie.Need-phase-requires-4
+phase-requires-4 c κs = search needs
+
+enum-known-light-4 : tie.Need-enum-known-light-4
+enum-known-light-4 c = search needs
+
+phase-requires-5 : tie.Need-phase-requires-5
+phase-requires-5 c κs = search needs
+
+enum-known-light-5 : tie.Need-enum-known-light-5
+enum-known-light-5 c = search needs
+
+entry-word-requires : tie.Need-entry-word-requires
+entry-word-requires c κs = search needs
+
+cast-phase-4 : tie.Need-cast-phase-4
+cast-phase-4 c = search needs
+
+phase-requires-6 : tie.Need-phase-requires-6
+phase-requires-6 c κs = search needs
+
+enum-known-light-6 : tie.Need-enum-known-light-6
+enum-known-light-6 c = search needs
+
+cast-phase-5 : tie.Need-cast-phase-5
+cast-phase-5 c = search needs
+
+cast-phase-6 : tie.Need-cast-phase-6
+cast-phase-6 c = search needs
+
+phase-requires-7 : tie.Need-phase-requires-7
+phase-requires-7 c κs = search needs
+
+enum-known-light-7 : tie.Need-enum-known-light-7
+enum-known-light-7 c = search needs
+
+phase-requires-8 : tie.Need-phase-requires-8
+phase-requires-8 c κs = search needs
+
+returns : tie.Need-returns
+returns c = rw (c .phase .ensures, c .before .stopped .ensures, c .before .before .enum-told .given .1)
+
+returns-2 : tie.Need-returns-2
+returns-2 c = rw (c .phase2 .ensures, c .before .before .before .before .light .given .1)
+
+returns-3 : tie.Need-returns-3
+returns-3 c = rw (c .phase3 .ensures, c .before .before .before .light2 .given .1)
+
+returns-4 : tie.Need-returns-4
+returns-4 c = rw (c .phase4 .ensures, c .before .before .light3 .given .1)
+
+returns-5 : tie.Need-returns-5
+returns-5 c = rw (c .phase5 .ensures, c .before .before .light4 .given .1)
+
+returns-6 : tie.Need-returns-6
+returns-6 c = rw (c .phase6 .ensures, c .before .before .entry-word .ensures, c .before .before .before .before .light5 .given .1)
+
+returns-7 : tie.Need-returns-7
+returns-7 c = rw (c .phase7 .ensures, c .before .before .before .before .light6 .given .1)
+
+returns-8 : tie.Need-returns-8
+returns-8 c = rw (c .phase8 .ensures, c .before .before .light7 .given .1)
+
+pub light-words-spec : {M : Type 1} → statement M
+light-words-spec =
+    tie.close
+    (tie.spec
+    enum-told
+    stopped-requires
+    phase-requires
+    enum-known-light
+    cast-phase
+    cast-phase-2
+    phase-requires-2
+    enum-known-light-2
+    cast-phase-3
+    phase-requires-3
+    enum-known-light-3
+    phase-requires-4
+    enum-known-light-4
+    phase-requires-5
+    enum-known-light-5
+    entry-word-requires
+    cast-phase-4
+    phase-requires-6
+    enum-known-light-6
+    cast-phase-5
+    cast-phase-6
+    phase-requires-7
+    enum-known-light-7
+    phase-requires-8
+    returns
+    returns-2
+    returns-3
+    returns-4
+    returns-5
+    returns-6
+    returns-7
+    returns-8)

@@ -1,0 +1,158 @@
+-- A box as words of 64 bits: which word holds what, when words are a box's, and what box they tell.
+-- Assumes nothing.
+use Prim.Native.Nat.{ℕ, _+_, _*_, _/_, _%_, _^_}
+use mathlib.Core.Bool.{Bool, true, cond, _&&_}
+use mathlib.Core.List.{List, [], _∷_, _++_, map}
+use lib.Dec.{eqb}
+use lib.ListN.{take, drop, getD}
+use Rattle.clock.specs.declared.Timer.{Timer}
+use Rattle.box_calls.specs.declared.FloorBox.{FloorBox}
+use Rattle.box_grants.specs.declared.Entry.{Entry}
+use Rattle.box_grants.specs.declared.GrantList.{GrantList}
+use Rattle.box_light.specs.declared.Light.{Light}
+use Rattle.box_light.specs.declared.Light.the-variants.{Rest, Before, Random, Warming, Asking, Due, Lit, Open}
+use Rattle.box_registration.specs.declared.Registration.{Registration}
+use Rattle.box_registration.specs.declared.State.{State}
+use Rattle.box_registration.specs.declared.State.the-variants.{Wait, Registering, RegisterReq, Registered}
+use Rattle.face_fields.specs.Fields.{shortOf, countOf, quantaOf, timerOf}
+use Rattle.box_processes.specs.Parts.{fresh}
+use Rattle.face_words.specs.Words.{same}
+use Rattle.face_box.specs.declared.Front.{Front}
+use Rattle.face_box.specs.declared.LightWords.{LightWords}
+
+-- a grant's start above its length: every word is one grant's, and every grant has one word
+abbrev pub entryWord : Entry → ℕ
+entryWord e = e .start .0 * 2 ^ 32 + e .length .0
+
+abbrev pub entryOf : ℕ → Entry
+entryOf w = record { start = record { 0 = w / 2 ^ 32 }; length = record { 0 = w % 2 ^ 32 } }
+
+abbrev pub listOf : ℕ → List ℕ → GrantList
+listOf number entries = record { entries = map entryOf entries; number = number }
+
+abbrev pub stateWord : State → ℕ
+stateWord Wait = 0
+stateWord Registering = 1
+stateWord RegisterReq = 2
+stateWord Registered = 3
+
+-- a word that is no state's is taken as WAIT
+unfoldable pub stateOf : ℕ → State
+stateOf w = cond (eqb w 1) Registering (cond (eqb w 2) RegisterReq (cond (eqb w 3) Registered Wait))
+
+abbrev pub registrationOf : ℕ → ℕ → ℕ → ℕ → ℕ → ℕ → Registration
+registrationOf state wait watchdog report port sync =
+    record {
+      state = stateOf state;
+      wait = timerOf wait;
+      watchdog = timerOf watchdog;
+      report = timerOf report;
+      port = shortOf port;
+      sync = quantaOf sync;
+    }
+
+abbrev pub phaseWords : ℕ → Timer → ℕ → ℕ → LightWords
+phaseWords phase timer grant sync = record { phase = phase; left = timer .left; grant = grant; sync = sync }
+
+-- what a phase does not hold is 0
+abbrev pub lightWords : Light → LightWords
+lightWords Rest = phaseWords 0 (record { left = 0 }) 0 0
+lightWords (Before t random sync) = phaseWords 1 t (random .0) (sync .0)
+lightWords (Random t sync) = phaseWords 2 t 0 (sync .0)
+lightWords (Warming t) = phaseWords 3 t 0 0
+lightWords (Asking t) = phaseWords 4 t 0 0
+lightWords (Due t entry sync) = phaseWords 5 t (entryWord entry) (sync .0)
+lightWords (Lit t length sync) = phaseWords 6 t (length .0) (sync .0)
+lightWords (Open t) = phaseWords 7 t 0 0
+
+-- the phases of discovery; a word that is no phase's is taken as rest
+unfoldable pub discoveryOf : LightWords → Light
+discoveryOf w =
+    let t = timerOf (w .left) in
+    let sync = quantaOf (w .sync) in
+    cond (eqb (w .phase) 1) (Before t (quantaOf (w .grant)) sync)
+    (cond (eqb (w .phase) 2) (Random t sync)
+    (cond (eqb (w .phase) 3) (Warming t)
+    (cond (eqb (w .phase) 4) (Asking t) Rest)))
+
+unfoldable pub lightOf : LightWords → Light
+lightOf w =
+    let t = timerOf (w .left) in
+    let sync = quantaOf (w .sync) in
+    cond (eqb (w .phase) 5) (Due t (entryOf (w .grant)) sync)
+    (cond (eqb (w .phase) 6) (Lit t (quantaOf (w .grant)) sync)
+    (cond (eqb (w .phase) 7) (Open t) (discoveryOf w)))
+
+-- the words before the list's grants, in their order
+unfoldable pub frontWords : Front → List ℕ
+frontWords f =
+    let r = f .registration in
+    let l = lightWords (f .light) in
+    f .address .0
+    ∷ f .count .0
+    ∷ stateWord (r .state)
+    ∷ r .wait .left
+    ∷ r .watchdog .left
+    ∷ r .report .left
+    ∷ r .port
+    ∷ r .sync .0
+    ∷ l .phase
+    ∷ l .left
+    ∷ l .grant
+    ∷ l .sync
+    ∷ f .number
+    ∷ []
+
+unfoldable pub frontOf : List ℕ → Front
+frontOf w =
+    let at : ℕ → ℕ = λ i. getD w i 0 in
+    record {
+      address = record { 0 = at 0 };
+      count = countOf (at 1);
+      registration = registrationOf (at 2) (at 3) (at 4) (at 5) (at 6) (at 7);
+      light = lightOf (record { phase = at 8; left = at 9; grant = at 10; sync = at 11 });
+      number = at 12;
+    }
+
+-- a box is what stands before its list's grants, and these
+abbrev pub frontIn : FloorBox → Front
+frontIn b =
+    let p = b .processes in
+    record { address = b .address; count = p .count; registration = p .registration; light = p .light; number = p .list .number }
+
+abbrev pub boxed : Front → List Entry → FloorBox
+boxed f entries =
+    record {
+      address = f .address;
+      processes =
+          record { count = f .count; registration = f .registration; list = record { entries = entries; number = f .number }; light = f .light };
+    }
+
+-- the words of a box
+unfoldable pub boxWords : FloorBox → List ℕ
+boxWords b = frontWords (frontIn b) ++ map entryWord (b .processes .list .entries)
+
+-- the box that words would tell if they were a box's
+unfoldable pub boxOf : List ℕ → FloorBox
+boxOf w = boxed (frontOf w) (map entryOf (drop 13 w))
+
+-- all of them are 0
+abbrev pub isClear : List ℕ → Bool
+isClear [] = true
+isClear (x ∷ l) = eqb x 0 && isClear l
+
+-- the box with this front has just these words: nothing stands behind as many grants as it holds
+unfoldable pub hasWords : Front → List ℕ → Bool
+hasWords f w = same (frontWords f) (take 13 w) && isClear (drop (f .number) (drop 13 w))
+
+-- the words are those of what they tell
+unfoldable pub isBox : List ℕ → Bool
+isBox w = hasWords (frontOf w) w
+
+-- what a refused fresh box is: sound nowhere, for its address
+abbrev pub nobody : FloorBox
+nobody = record { address = record { 0 = 0 }; processes = fresh }
+
+-- the box that words tell
+unfoldable pub boxIn : List ℕ → FloorBox
+boxIn w = cond (isBox w) (boxOf w) nobody

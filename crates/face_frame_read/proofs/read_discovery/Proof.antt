@@ -1,0 +1,66 @@
+-- `face_frame_read::read_discovery` meets its promise.
+-- Assumes nothing.
+use borrow.Author.Needs.{needs}
+use denote.Ref.{now}
+use Rattle.face_frame_read.specs.Steps.{discoveryRead}
+use Rattle.face_frame.specs.Message.{messageWords}
+use Rattle.face_frame_read.proofs.Words.{discovery-words}
+use Rattle.face_frame_read.proofs.read_discovery.Statement.{statement}
+use Rattle.face_frame_read.proofs.read_discovery.Tie as tie
+
+field-requires : tie.Need-field-requires
+field-requires c κs = search needs
+
+add-if1 : tie.Need-add-if1
+add-if1 c = search needs
+
+shr-if1 : tie.Need-shr-if1
+shr-if1 c = search needs
+
+field-requires-2 : tie.Need-field-requires-2
+field-requires-2 c κs = search needs
+
+grant-requires : tie.Need-grant-requires
+grant-requires c κs = search needs
+
+take-requires : tie.Need-take-requires
+take-requires c κs = search needs
+
+same-length : tie.Need-same-length
+same-length c = search needs
+
+returns : tie.Need-returns
+returns c =
+    let g = c .before .before .before .before in
+    let f = g .before .before .before in
+    let a = f .before .before .before .args in
+    rw (c .before .before .take .ensures, g .grant .ensures, g .before .field2 .ensures .0, f .field .ensures .0)
+    (discovery-words (now (a .s)) (now (a .m)) (rw (← f .field .ensures .0) (g .before .before .if1 .taken)))
+
+refuse-requires : tie.Need-refuse-requires
+refuse-requires c κs = search needs
+
+same-length-2 : tie.Need-same-length-2
+same-length-2 c = search needs
+
+returns-2 : tie.Need-returns-2
+unfolding discoveryRead messageWords
+returns-2 c =
+    let i = c .before .before .before .before in
+    rw (c .before .before .refuse .ensures, ← i .before .field .ensures .0, i .if1 .left)
+
+pub read-discovery-spec : {M : Type 1} → statement M
+read-discovery-spec =
+    tie.close
+    (tie.spec
+    field-requires
+    add-if1
+    shr-if1
+    field-requires-2
+    grant-requires
+    take-requires
+    same-length
+    returns
+    refuse-requires
+    same-length-2
+    returns-2)

@@ -1,0 +1,341 @@
+// Writing a frame: the words of a message straight into octets.
+ghost use mathlib.Core.Path.{_≡_};
+ghost use mathlib.Core.Bool.{cond};
+ghost use lib.Dec.{eqb};
+ghost use mathlib.Core.List.{[], _++_};
+ghost use Prim.Native.Nat.{_+_, _≤_};
+ghost use lib.ListN.{length, take, drop, replicate};
+ghost use Rattle.octets.specs.Octets.{bytes};
+ghost use Rattle.frame.specs.Layout.{frameOf};
+ghost use Rattle.frame_writer.specs.Write.{over};
+ghost use Rattle.face_frame_write.specs.Write.{writeLeft, writingOf, written, writeCall};
+ghost use Rattle.face_frame_write.specs.Steps.{headerIn, grantIn, forceIn, gateIn, grantOver, gateLaid, discoveryLaid, reportLaid, registerReqLaid, registerLaid, registerAckLaid};
+use frame::Body;
+use frame::Message;
+
+// A lent slice that is too short: no number of the card.
+const SHORT: u8 = 100;
+
+// The card's number for what has no frame.
+const RANGE: u8 = 4;
+
+// Words of a message.
+const WORDS: usize = 10;
+
+// The n octets of x, written over `o` from `at`.
+fn lay(o: &mut [u8], at: usize, n: usize, x: u64)
+    requires { ⌜ at + n ≤ length (now o) ⌝ }
+    ensures { λ _. ⌜ now (o .exit) ≡ over at (now (o .entry)) (bytes n x) ⌝ }
+{
+    let e = at + n;
+    octets::put(&mut o[at..e], x);
+}
+
+// A grant from a word, start above length; zeros where there is none.
+fn lay_grant(o: &mut [u8], at: usize, grant: u64)
+    requires { ⌜ at + 6 ≤ length (now o) ⌝ }
+    ensures { λ _. ⌜ now (o .exit) ≡ grantOver at (now (o .entry)) grant ⌝ }
+{
+    lay(o, at, 4, grant / 0x100000000);
+    lay(o, at + 4, 2, grant % 0x100000000);
+}
+
+// A frame with an empty body.
+fn begin(o: &mut [u8], destination: u64, source: u64, opcode: u64, timestamp: u64)
+    requires { ⌜ 60 ≤ length (now o) ⌝ }
+    ensures { λ _. ⌜ now (o .exit) ≡ frameOf destination source opcode timestamp [] ++ drop 60 (now (o .entry)) ⌝ }
+{
+    lay(o, 0, 60, 0);
+    lay(o, 0, 6, destination);
+    lay(o, 6, 6, source);
+    lay(o, 12, 2, Message::KIND);
+    lay(o, 14, 2, opcode);
+    lay(o, 16, 4, timestamp);
+}
+
+fn refuse(o: &mut [u8]) -> u8
+    requires { ⌜ 60 ≤ length (now o) ⌝ }
+    ensures { λ r. ⌜ writeLeft r (now (o .exit)) ≡ writeLeft 4 (replicate 60 0 ++ drop 60 (now (o .entry))) ⌝ }
+{
+    lay(o, 0, 60, 0);
+    RANGE
+}
+
+fn header_in(destination: u64, source: u64, timestamp: u64) -> bool
+    ensures { λ r. ⌜ r ≡ headerIn destination source timestamp ⌝ }
+{
+    (destination <= 0xFFFFFFFFFFFF) & (source <= 0xFFFFFFFFFFFF) & (timestamp <= 0xFFFFFFFF)
+}
+
+fn grant_in(grant: u64, there: bool) -> bool
+    ensures { λ r. ⌜ r ≡ grantIn grant there ⌝ }
+{
+    if there {
+        return grant % 0x100000000 <= 0xFFFF;
+    }
+    grant == 0
+}
+
+fn force_in(force: u64, n: u64) -> bool
+    ensures { λ r. ⌜ r ≡ forceIn force n ⌝ }
+{
+    if n <= 4 {
+        return force >> n == 0;
+    }
+    false
+}
+
+// The four grants of a GATE; those that aren't there are its pad.
+fn lay_grants(o: &mut [u8], a: u64, b: u64, c: u64, d: u64)
+    requires { ⌜ 60 ≤ length (now o) ⌝ }
+    ensures { λ _. ⌜ now (o .exit) ≡ grantOver 39 (grantOver 33 (grantOver 27 (grantOver 21 (now (o .entry)) a) b) c) d ⌝ }
+{
+    lay_grant(o, 21, a);
+    lay_grant(o, 27, b);
+    lay_grant(o, 33, c);
+    lay_grant(o, 39, d);
+}
+
+fn gate_in(n: u64, force: u64, a: u64, b: u64, c: u64, d: u64) -> bool
+    ensures { λ r. ⌜ r ≡ gateIn n force a b c d ⌝ }
+{
+    force_in(force, n)
+        & grant_in(a, 0 < n)
+        & grant_in(b, 1 < n)
+        & grant_in(c, 2 < n)
+        & grant_in(d, 3 < n)
+}
+
+fn write_gate(
+    o: &mut [u8],
+    destination: u64,
+    source: u64,
+    timestamp: u64,
+    n: u64,
+    force: u64,
+    a: u64,
+    b: u64,
+    c: u64,
+    d: u64,
+) -> u8
+    requires { ⌜ 60 ≤ length (now o) ⌝ }
+    ensures { λ r. ⌜ writeLeft r (now (o .exit)) ≡ gateLaid destination source timestamp n force a b c d (now (o .entry)) ⌝ }
+{
+    if header_in(destination, source, timestamp) & gate_in(n, force, a, b, c, d) {
+        begin(o, destination, source, Body::GATE, timestamp);
+        lay(o, 20, 1, n % 8 + 16 * (force % 16));
+        lay_grants(o, a, b, c, d);
+        return 0;
+    }
+    refuse(o)
+}
+
+// One grant, the discovery bit, and whether the grant's force bit.
+fn first_octet(force: u64) -> u64
+    ensures { λ r. ⌜ r ≡ cond (eqb force 1) 25 9 ⌝ }
+{
+    if force == 1 { 25 } else { 9 }
+}
+
+fn write_discovery(
+    o: &mut [u8],
+    destination: u64,
+    source: u64,
+    timestamp: u64,
+    sync: u64,
+    force: u64,
+    grant: u64,
+    a: u64,
+    b: u64,
+    c: u64,
+) -> u8
+    requires { ⌜ 60 ≤ length (now o) ⌝ }
+    ensures { λ r. ⌜ writeLeft r (now (o .exit)) ≡ discoveryLaid destination source timestamp sync force grant a b c (now (o .entry)) ⌝ }
+{
+    if header_in(destination, source, timestamp)
+        & (sync <= 0xFFFF)
+        & (force <= 1)
+        & (grant % 0x100000000 <= 0xFFFF)
+        & (a == 0)
+        & (b == 0)
+        & (c == 0)
+    {
+        begin(o, destination, source, Body::GATE, timestamp);
+        lay(o, 20, 1, first_octet(force));
+        lay_grant(o, 21, grant);
+        lay(o, 27, 2, sync);
+        return 0;
+    }
+    refuse(o)
+}
+
+fn write_report(
+    o: &mut [u8],
+    destination: u64,
+    source: u64,
+    timestamp: u64,
+    a: u64,
+    b: u64,
+    c: u64,
+    d: u64,
+    e: u64,
+    f: u64,
+) -> u8
+    requires { ⌜ 60 ≤ length (now o) ⌝ }
+    ensures { λ r. ⌜ writeLeft r (now (o .exit)) ≡ reportLaid destination source timestamp a b c d e f (now (o .entry)) ⌝ }
+{
+    if header_in(destination, source, timestamp)
+        & (a == 0)
+        & (b == 0)
+        & (c == 0)
+        & (d == 0)
+        & (e == 0)
+        & (f == 0)
+    {
+        begin(o, destination, source, Body::REPORT, timestamp);
+        return 0;
+    }
+    refuse(o)
+}
+
+fn write_register_req(
+    o: &mut [u8],
+    destination: u64,
+    source: u64,
+    timestamp: u64,
+    flag: u64,
+    pending: u64,
+    a: u64,
+    b: u64,
+    c: u64,
+    d: u64,
+) -> u8
+    requires { ⌜ 60 ≤ length (now o) ⌝ }
+    ensures { λ r. ⌜ writeLeft r (now (o .exit)) ≡ registerReqLaid destination source timestamp flag pending a b c d (now (o .entry)) ⌝ }
+{
+    if header_in(destination, source, timestamp)
+        & ((flag == 1) | (flag == 3))
+        & (pending <= 0xFF)
+        & (a == 0)
+        & (b == 0)
+        & (c == 0)
+        & (d == 0)
+    {
+        begin(o, destination, source, Body::REGISTER_REQ, timestamp);
+        lay(o, 20, 1, flag);
+        lay(o, 21, 1, pending);
+        return 0;
+    }
+    refuse(o)
+}
+
+fn write_register(
+    o: &mut [u8],
+    destination: u64,
+    source: u64,
+    timestamp: u64,
+    flag: u64,
+    port: u64,
+    sync: u64,
+    pending: u64,
+    a: u64,
+    b: u64,
+) -> u8
+    requires { ⌜ 60 ≤ length (now o) ⌝ }
+    ensures { λ r. ⌜ writeLeft r (now (o .exit)) ≡ registerLaid destination source timestamp flag port sync pending a b (now (o .entry)) ⌝ }
+{
+    if header_in(destination, source, timestamp)
+        & ((flag == 1) | (flag == 2) | (flag == 3) | (flag == 4))
+        & (port <= 0xFFFF)
+        & (sync <= 0xFFFF)
+        & (pending <= 0xFF)
+        & (a == 0)
+        & (b == 0)
+    {
+        begin(o, destination, source, Body::REGISTER, timestamp);
+        lay(o, 20, 2, port);
+        lay(o, 22, 1, flag);
+        lay(o, 23, 2, sync);
+        lay(o, 25, 1, pending);
+        return 0;
+    }
+    refuse(o)
+}
+
+fn write_register_ack(
+    o: &mut [u8],
+    destination: u64,
+    source: u64,
+    timestamp: u64,
+    flag: u64,
+    port: u64,
+    sync: u64,
+    a: u64,
+    b: u64,
+    c: u64,
+) -> u8
+    requires { ⌜ 60 ≤ length (now o) ⌝ }
+    ensures { λ r. ⌜ writeLeft r (now (o .exit)) ≡ registerAckLaid destination source timestamp flag port sync a b c (now (o .entry)) ⌝ }
+{
+    if header_in(destination, source, timestamp)
+        & ((flag == 0) | (flag == 1))
+        & (port <= 0xFFFF)
+        & (sync <= 0xFFFF)
+        & (a == 0)
+        & (b == 0)
+        & (c == 0)
+    {
+        begin(o, destination, source, Body::REGISTER_ACK, timestamp);
+        lay(o, 20, 1, flag);
+        lay(o, 21, 2, port);
+        lay(o, 23, 2, sync);
+        return 0;
+    }
+    refuse(o)
+}
+
+// By the kind of message.
+fn write_words(w: &[u64], o: &mut [u8]) -> u8
+    requires { ⌜ (10 ≤ length (now w)) × (60 ≤ length (now o)) ⌝ }
+    ensures { λ r. ⌜ writeLeft r (now (o .exit)) ≡ written (writingOf (take 10 (now (w .entry)))) (now (o .entry)) ⌝ }
+{
+    let to = w[0];
+    let from = w[1];
+    let stamp = w[2];
+    let kind = w[3];
+    let a = w[4];
+    let b = w[5];
+    let c = w[6];
+    let d = w[7];
+    let e = w[8];
+    let f = w[9];
+    if kind == 0 {
+        return write_gate(o, to, from, stamp, a, b, c, d, e, f);
+    }
+    if kind == 1 {
+        return write_discovery(o, to, from, stamp, a, b, c, d, e, f);
+    }
+    if kind == 2 {
+        return write_report(o, to, from, stamp, a, b, c, d, e, f);
+    }
+    if kind == 3 {
+        return write_register_req(o, to, from, stamp, a, b, c, d, e, f);
+    }
+    if kind == 4 {
+        return write_register(o, to, from, stamp, a, b, c, d, e, f);
+    }
+    if kind == 5 {
+        return write_register_ack(o, to, from, stamp, a, b, c, d, e, f);
+    }
+    refuse(o)
+}
+
+// The frame of the message that the words are the words of; else 4, and zeros.
+pub fn write(message: &[u64], octets: &mut [u8]) -> u8
+    ensures { λ r. ⌜ writeLeft r (now (octets .exit)) ≡ writeCall (now (message .entry)) (now (octets .entry)) ⌝ }
+{
+    if (WORDS <= message.len()) & (Message::OCTETS <= octets.len()) {
+        return write_words(message, octets);
+    }
+    SHORT
+}

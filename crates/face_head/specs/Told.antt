@@ -1,0 +1,25 @@
+-- A head's answer as words of 64 bits.
+-- Assumes nothing.
+use Prim.Native.Nat.{ℕ}
+use mathlib.Core.Bool.{cond}
+use mathlib.Core.List.{List, [], _∷_}
+use lib.Dec.{eqb}
+use Rattle.head_plans.specs.declared.Kind.{Kind}
+use Rattle.head_plans.specs.declared.Kind.the-variants.{Nothing, Request, Registered, Dropped, Report}
+use Rattle.head_plans.specs.declared.Notice.{Notice}
+use Rattle.head_calls.specs.declared.Answer.{Answer}
+
+abbrev pub kindWord : Kind → ℕ
+kindWord Nothing = 0
+kindWord Request = 1
+kindWord Registered = 2
+kindWord Dropped = 3
+kindWord Report = 4
+
+-- how many notices, 0 or 1, and the notice's kind, link and round trip
+unfoldable pub noticeWords : Notice → List ℕ
+noticeWords n = cond (eqb (kindWord (n .kind)) 0) (0 ∷ []) (1 ∷ kindWord (n .kind) ∷ n .link ∷ n .trip .0 ∷ [])
+
+-- how many frames, and the notice
+unfoldable pub toldWords : Answer → List ℕ
+toldWords a = a .frames ∷ noticeWords (a .notice)

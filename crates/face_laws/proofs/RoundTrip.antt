@@ -1,0 +1,131 @@
+-- A box that is packed into words and unpacked is the same box, whatever it holds, as long as each number fits its type and nothing stands
+-- behind its list: so a call of the C face on a block that a call left is the core's call on the core's own answer.
+-- Assumes nothing.
+use Prim.Native.Nat.{ℕ, zero, suc, _+_, _-_, _*_, _/_, _%_, _^_, _<_}
+use mathlib.Core.Path.{_≡_, refl, ap}
+use mathlib.Core.Bool.{true}
+use mathlib.Core.List.{List, [], _∷_, map}
+use native.Mathlib.Omega.{arith}
+use lib.ListN.{take, drop, replicate}
+use Rattle.clock.specs.declared.Quanta.{Quanta}
+use Rattle.clock.specs.declared.Timer.{Timer}
+use Rattle.box_calls.specs.declared.FloorBox.{FloorBox}
+use Rattle.box_grants.specs.Listed.{none}
+use Rattle.box_grants.specs.declared.Entry.{Entry}
+use Rattle.box_light.specs.declared.Light.{Light}
+use Rattle.box_light.specs.declared.Light.the-variants.{Rest, Before, Random, Warming, Asking, Due, Lit, Open}
+use Rattle.box_registration.specs.declared.Registration.{Registration}
+use Rattle.box_registration.specs.declared.State.{State}
+use Rattle.box_registration.specs.declared.State.the-variants.{Wait, Registering, RegisterReq, Registered}
+use Rattle.face_words.specs.Laws.{same-self}
+use Rattle.face_words.specs.Words.{narrowed}
+use Rattle.face_box.specs.Box.{entryWord, entryOf, stateWord, stateOf, registrationOf, lightWords, discoveryOf, lightOf, frontWords, frontOf, frontIn, boxWords, boxOf, hasWords, isBox, boxIn}
+use Rattle.face_box.specs.Laws.{clear-of}
+use Rattle.face_fields.specs.Fields.{timerOf, quantaOf, shortOf}
+use Rattle.face_laws.specs.Box.{TimerFits, QuantaFit, EntryFits, EntriesFit, LightFits, Fits}
+
+pub narrow-is : (n : ℕ) → n < 2 ^ 32 → narrowed n ≡ n
+narrow-is n h = omega arith
+
+pub timer-back : (t : Timer) → TimerFits t → timerOf (t .left) ≡ t
+timer-back t h = rw (narrow-is (t .left) h)
+
+pub quanta-back : (q : Quanta) → QuantaFit q → quantaOf (q .0) ≡ q
+quanta-back q h = rw (narrow-is (q .0) h)
+
+upper : (a b : ℕ) → b < 2 ^ 32 → (a * 2 ^ 32 + b) / 2 ^ 32 ≡ a
+upper a b h = omega arith
+
+lower : (a b : ℕ) → b < 2 ^ 32 → (a * 2 ^ 32 + b) % 2 ^ 32 ≡ b
+lower a b h = omega arith
+
+entry-back : (e : Entry) → EntryFits e → entryOf (entryWord e) ≡ e
+entry-back e h = rw (upper (e .start .0) (e .length .0) h, lower (e .start .0) (e .length .0) h)
+
+entries-back : (es : List Entry) → EntriesFit es → map entryOf (map entryWord es) ≡ es
+entries-back [] h = refl
+entries-back (e ∷ es) h = rw (entry-back e (h .0), entries-back es (h .1))
+
+state-back : (s : State) → stateOf (stateWord s) ≡ s
+unfolding stateOf
+state-back Wait = refl
+state-back Registering = refl
+state-back RegisterReq = refl
+state-back Registered = refl
+
+port-is : (n : ℕ) → n < 2 ^ 16 → shortOf n ≡ n
+port-is n h = omega arith
+
+light-back : (l : Light) → LightFits l → lightOf (lightWords l) ≡ l
+unfolding lightOf discoveryOf
+light-back Rest h = refl
+light-back (Before t random sync) h = rw (timer-back t (h .0), quanta-back random (h .1), quanta-back sync (h .2))
+light-back (Random t sync) h = rw (timer-back t (h .0), quanta-back sync (h .1))
+light-back (Warming t) h = rw (timer-back t h)
+light-back (Asking t) h = rw (timer-back t h)
+light-back (Due t entry sync) h = rw (timer-back t (h .0), entry-back entry (h .1), quanta-back sync (h .2))
+light-back (Lit t n sync) h = rw (timer-back t (h .0), quanta-back n (h .1), quanta-back sync (h .2))
+light-back (Open t) h = rw (timer-back t h)
+
+registration-back : (r : Registration) → TimerFits (r .wait) → TimerFits (r .watchdog) → TimerFits (r .report) → r .port < 2 ^ 16
+    → QuantaFit (r .sync)
+    → registrationOf (stateWord (r .state)) (r .wait .left) (r .watchdog .left) (r .report .left) (r .port) (r .sync .0) ≡ r
+registration-back r hw hd hr hp hs =
+    rw (
+      state-back (r .state),
+      timer-back (r .wait) hw,
+      timer-back (r .watchdog) hd,
+      timer-back (r .report) hr,
+      port-is (r .port) hp,
+      quanta-back (r .sync) hs,
+    )
+
+-- what stands before the grants
+front-back : (b : FloorBox) → Fits b → frontOf (boxWords b) ≡ frontIn b
+unfolding boxWords frontOf frontWords
+front-back b h =
+    let p = b .processes in
+    rw (
+      narrow-is (p .count .0) (h .count),
+      registration-back (p .registration) (h .wait) (h .watchdog) (h .report) (h .port) (h .sync),
+      light-back (p .light) (h .light),
+    )
+
+front-words : (b : FloorBox) → take 13 (boxWords b) ≡ frontWords (frontIn b)
+unfolding boxWords frontWords
+front-words b = refl
+
+grant-words : (b : FloorBox) → drop 13 (boxWords b) ≡ map entryWord (b .processes .list .entries)
+unfolding boxWords frontWords
+grant-words b = refl
+
+-- what stands behind a number of elements, and of which there are so many
+pub drop-map : {A B : Type 0} (f : A → B) (n : ℕ) (l : List A) → drop n (map f l) ≡ map f (drop n l)
+drop-map f zero l = refl
+drop-map f (suc n) [] = refl
+drop-map f (suc n) (x ∷ l) = drop-map f n l
+
+pub map-all : {A B : Type 0} (f : A → B) (n : ℕ) (x : A) → map f (replicate n x) ≡ replicate n (f x)
+map-all f zero x = refl
+map-all f (suc n) x = ap (λ l. f x ∷ l) (map-all f n x)
+
+-- the words of a box are a box's
+pub is-box : (b : FloorBox) → Fits b → isBox (boxWords b) ≡ true
+unfolding isBox hasWords
+is-box b h =
+    let s = b .processes .list in
+    rw (
+      front-back b h,
+      front-words b,
+      same-self (frontWords (frontIn b)),
+      grant-words b,
+      drop-map entryWord (s .number) (s .entries),
+      h .behind,
+      map-all entryWord (16 - s .number) none,
+    )
+    (clear-of (16 - s .number))
+
+-- the theorem
+pub unpacked : (b : FloorBox) → Fits b → boxIn (boxWords b) ≡ b
+unfolding boxIn boxOf
+unpacked b h = rw (is-box b h, front-back b h, grant-words b, entries-back (b .processes .list .entries) (h .entries))

@@ -1,0 +1,59 @@
+// Words of 64 bits, as the C face keeps states and answers in the caller's memory.
+ghost use mathlib.Core.Path.{_≡_};
+ghost use Prim.Native.Nat.{min};
+ghost use Rattle.face_words.specs.Words.{laid, same, narrowed, driftWord};
+
+// How many words both have.
+fn shorter(from: usize, to: usize) -> usize
+    ensures { λ r. ⌜ r ≡ min from to ⌝ }
+{
+    if from < to { from } else { to }
+}
+
+// Lays `from` over the beginning of `to`, as far as there is room; what stands behind it stays.
+pub fn lay(from: &[u64], to: &mut [u64])
+    ensures { λ _. ⌜ now (to .exit) ≡ laid (now (from .entry)) (now (to .entry)) ⌝ }
+{
+    let n = shorter(from.len(), to.len());
+    let mut i = 0;
+    while i < n {
+        to[i] = from[i];
+        i += 1;
+    }
+}
+
+// Whether both are the same words.
+pub fn same(a: &[u64], b: &[u64]) -> bool
+    ensures { λ r. ⌜ r ≡ same (now (a .entry)) (now (b .entry)) ⌝ }
+{
+    if a.len() != b.len() {
+        return false;
+    }
+    let mut met = true;
+    let mut i = 0;
+    while i < a.len() {
+        met = met & (a[i] == b[i]);
+        i += 1;
+    }
+    met
+}
+
+// A word as a number of 32 bits. One that is too large is taken as the largest, which is no sound state's.
+pub fn narrow(word: u64) -> u32
+    ensures { λ r. ⌜ r ≡ narrowed word ⌝ }
+{
+    if word < 0xFFFFFFFF {
+        return word as u32;
+    }
+    0xFFFFFFFF
+}
+
+// A drift as a word: two's complement, as C's int64_t reads it.
+pub fn of_drift(drift: i64) -> u64
+    ensures { λ r. ⌜ r ≡ driftWord drift ⌝ }
+{
+    if drift < 0 {
+        return 0xFFFFFFFFFFFFFFFF - (-1 - drift) as u64;
+    }
+    drift as u64
+}

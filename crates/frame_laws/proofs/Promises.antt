@@ -1,0 +1,75 @@
+-- The round trips and the table, of whatever the promises of `read` and `write` allow.
+-- Assumes nothing.
+use Prim.Native.Nat.{ℕ, _+_}
+use mathlib.Core.Path.{_≡_, sym, ap, _∙_}
+use mathlib.Core.List.{List}
+use borrow.Fn.Kinds.{Dens, endedOf}
+use contract.Lifetimes.{Lfts}
+use denote.Ref.{now}
+use denote.Triple.Clauses.{AtExit}
+use lib.ListN.{length}
+use Rattle.octets.specs.Octets.{Octets}
+use Rattle.frame.specs.Layout.{bodyOctets, zeroPad}
+use Rattle.frame.specs.Range.{Valid, Typed}
+use Rattle.frame.specs.Reading.{Carries, Reads}
+use Rattle.frame.specs.Writing.{Writes}
+use Rattle.frame_reader.specs.Decode.{readOf}
+use Rattle.frame_writer.specs.Write.{writeOf}
+use Rattle.frame.specs.declared.Message.{Message}
+use Rattle.frame.specs.declared.Reading.{Reading}
+use Rattle.frame.specs.declared.Reply.the-variants.{Done}
+use Rattle.frame.specs.declared.Writing.{Writing}
+use Rattle.frame_reader.proofs.read.Kinds as read-kinds
+use Rattle.frame_reader.proofs.read.Reads as read
+use Rattle.frame_writer.proofs.write.Kinds as write-kinds
+use Rattle.frame_writer.proofs.write.Reads as write
+use Rattle.frame_reader.proofs.Forth.{read-encode}
+use Rattle.frame_reader.proofs.Back.{carried}
+use Rattle.frame_reader.proofs.Table.{reads, reads-only}
+use Rattle.frame_writer.proofs.Page.{write-done, writes, writes-only}
+
+-- r is an answer that the promise of `read` allows to a lent slice of the octets l
+pub record Read (l : List ℕ) (r : Reading) : Type 1 where
+  pub κs : Lfts 1
+  pub args : Dens κs read-kinds.ps
+  pub lent : now (args .0) ≡ l
+  pub exit : AtExit (endedOf 1 read-kinds.ps read-kinds.r) κs
+  pub promised : read.Post κs args r exit
+
+-- w is an answer that the promise of `write` allows to the message m
+pub record Wrote (m : Message) (w : Writing) : Type 0 where
+  pub exit : AtExit (endedOf 0 write-kinds.ps write-kinds.r) tt
+  pub promised : write.Post tt (m, tt) w exit
+
+read-is : {l : List ℕ} {r : Reading} → Read l r → r ≡ readOf l
+read-is p = p .promised ∙ ap readOf (p .lent)
+
+wrote-is : {m : Message} {w : Writing} → Wrote m w → w ≡ writeOf m
+wrote-is p = p .promised
+
+-- 1. writing a valid message and reading it gives the message
+pub write-then-read : (m : Message) (w : Writing) (r : Reading) → Valid m → Wrote m w → Read (w .octets) r
+    → r ≡ record { reply = Done; message = m }
+write-then-read m w r v p q =
+    read-is q ∙ ap (λ (x : Writing). readOf (x .octets)) (wrote-is p ∙ write-done m v) ∙ read-encode m v
+
+-- 2. reading a frame and writing it gives the frame with its pad zeroed
+pub read-then-write : (l : List ℕ) (r : Reading) (w : Writing) → Octets l → Read l r → r .reply ≡ Done → Wrote (r .message) w
+    → w ≡ record { reply = Done; octets = zeroPad (20 + length (bodyOctets (r .message .body))) l }
+read-then-write l r w h p d q =
+    let c : Carries l (r .message) = rw (← read-is p) at (carried l h) d in
+    wrote-is q ∙ write-done (r .message) (c .valid) ∙ ap (λ (o : List ℕ). record { reply = Done; octets = o }) (sym (c .octets))
+
+-- 3. the answers are those of document 01's pages: what is given is valid, and each number is given exactly when its row says
+pub read-page : (l : List ℕ) (r : Reading) → Octets l → Read l r → Reads l r
+read-page l r h p = rw (read-is p) (reads l h)
+
+pub write-page : (m : Message) (w : Writing) → Typed m → Wrote m w → Writes m w
+write-page m w h p = rw (wrote-is p) (writes m h)
+
+-- 4. any two answers that a promise allows are equal (`Settled` in the crates `frame_reader` and `frame_writer`); a page allows no two either
+pub read-page-settles : (l : List ℕ) (r s : Reading) → Reads l r → Reads l s → r ≡ s
+read-page-settles l r s p q = reads-only l r p ∙ sym (reads-only l s q)
+
+pub write-page-settles : (m : Message) (w x : Writing) → Writes m w → Writes m x → w ≡ x
+write-page-settles = writes-only

@@ -1,0 +1,87 @@
+// Whether what a frame is to carry is in range: every number has its octets.
+ghost use mathlib.Core.Path.{_≡_};
+ghost use mathlib.Core.Bool.{true};
+ghost use Rattle.frame.specs.Layout.{listed};
+ghost use Rattle.frame_range.specs.Fits.{fitsAddress, isIndividual, fitsLength, fitsGrant, fitsAll, fitsBody, fitsMessage};
+use clock::Quanta;
+use frame::Address;
+use frame::Body;
+use frame::Grant;
+use frame::Grants;
+use frame::Message;
+
+pub fn address(a: Address) -> bool
+    ensures { λ r. ⌜ r ≡ fitsAddress a ⌝ }
+{
+    let largest = Address::LARGEST;
+    a.0 <= largest.0
+}
+
+// An own address, or a link's: not zero, and no group's, whose first octet is odd.
+pub fn individual(a: Address) -> bool
+    ensures { λ r. ⌜ r ≡ isIndividual a ⌝ }
+{
+    let n = a.0;
+    address(a) & (0 < n) & ((n >> 40) % 2 == 0)
+}
+
+// A length or a sync time.
+pub fn length(q: Quanta) -> bool
+    ensures { λ r. ⌜ r ≡ fitsLength q ⌝ }
+{
+    let longest = Grant::LONGEST;
+    q.0 <= longest.0
+}
+
+fn grant(g: Grant) -> bool
+    ensures { λ r. ⌜ r ≡ fitsGrant g ⌝ }
+{
+    let long = g.length;
+    length(long)
+}
+
+pub fn grants(g: Grants) -> bool
+    ensures { λ r. ⌜ r ≡ fitsAll true (listed g) ⌝ }
+{
+    match g {
+        Grants::None => true,
+        Grants::One(a) => grant(a),
+        Grants::Two(a, b) => grant(a) & grant(b),
+        Grants::Three(a, b, c) => grant(a) & grant(b) & grant(c),
+        Grants::Four(a, b, c, d) => grant(a) & grant(b) & grant(c) & grant(d),
+    }
+}
+
+fn body(b: Body) -> bool
+    ensures { λ r. ⌜ r ≡ fitsBody b ⌝ }
+{
+    match b {
+        Body::Gate(g) => grants(g),
+        Body::Discovery { grant: g, sync } => grant(g) & length(sync),
+        Body::Report => true,
+        Body::RegisterReq {
+            flag: _,
+            pending: _,
+        } => true,
+        Body::Register {
+            port: _,
+            flag: _,
+            sync,
+            pending: _,
+        } => length(sync),
+        Body::RegisterAck {
+            flag: _,
+            port: _,
+            sync,
+        } => length(sync),
+    }
+}
+
+pub fn message(m: Message) -> bool
+    ensures { λ r. ⌜ r ≡ fitsMessage m ⌝ }
+{
+    let destination = m.destination;
+    let source = m.source;
+    let said = m.body;
+    address(destination) & address(source) & body(said)
+}

@@ -1,0 +1,57 @@
+-- Document 01, "Steps of the head": "A fresh head has count 0, window idle, every lent link idle; making one lends no output and tests 13
+-- (number of links only) before 4." A refused one holds address zero, and leaves the lent links as they were.
+-- Assumes nothing.
+use Prim.Native.Nat.{ℕ}
+use mathlib.Core.Bool.{Bool, cond}
+use mathlib.Core.List.{List, [], _∷_}
+use lib.Dec.{eqb}
+use lib.ListN.{length}
+use Rattle.frame.specs.Card.{numberOf, _unless_, answerOf}
+use Rattle.frame.specs.declared.Address.{Address}
+use Rattle.frame.specs.declared.Reply.{Reply}
+use Rattle.frame.specs.declared.Reply.the-variants.{Range, Unsound}
+use Rattle.frame_range.specs.Fits.{isIndividual}
+use Rattle.head_state.specs.Head.{begun}
+use Rattle.lent.specs.Folds.{places}
+use Rattle.head_links.specs.Link.{idle}
+use Rattle.head_links.specs.declared.Link.{Link}
+use Rattle.head_survey.specs.Facts.{isFew}
+use Rattle.head_table.specs.declared.Event.{Event}
+use Rattle.head_plans.specs.Plan.{quiet}
+use Rattle.head_calls.specs.declared.Answer.{Answer}
+
+-- the answer, and what then stands in the table
+pub record Freshly : Type 0 where
+  pub answer : Answer
+  pub table : List Link
+
+abbrev pub freshly : Answer → List Link → Freshly
+freshly a xs = record { answer = a; table = xs }
+
+abbrev pub isDone : Reply → Bool
+isDone r = eqb (numberOf r) 0
+
+-- an accepted head clears the links, a refused one offers them nothing
+unfoldable pub clearing : Bool → Event
+clearing done = cond done Event.Clear Event.Nothing
+
+-- 13 (number of links only) before 4
+abbrev pub testedFor : Address → ℕ → Reply
+testedFor a n = answerOf (Unsound unless isFew n ∷ Range unless isIndividual a ∷ [])
+
+-- a head that has not begun; a refused one holds address zero
+unfoldable pub begunOf : Address → ℕ → Answer
+begunOf a n =
+    record {
+      reply = testedFor a n;
+      next = begun (cond (isDone (testedFor a n)) a (record { 0 = 0 }));
+      frames = 0;
+      notice = quiet;
+      made = 0;
+    }
+
+-- every lent link idle, or as they were
+unfoldable pub freshOf : Address → List Link → Freshly
+freshOf a xs =
+    let made = begunOf a (length xs) in
+    freshly made (cond (isDone (made .reply)) (places (λ k l. idle) 1 xs) xs)

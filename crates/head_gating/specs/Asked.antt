@@ -1,0 +1,48 @@
+-- Document 01, "Gate (link, grants, force bits)": what is asked for, and whether it is in range. "A force bit for an absent grant is out of
+-- range"; more than four grants is judged apart, with no more than the first four handed in.
+-- Assumes nothing.
+use Prim.Native.Nat.{ℕ, _/_, _%_}
+use mathlib.Core.Bool.{Bool, true, cond, _&&_}
+use lib.Dec.{eqb, ltb}
+use Rattle.frame.specs.Layout.{listed}
+use Rattle.frame.specs.declared.Grant.{Grant}
+use Rattle.frame.specs.declared.Grants.{Grants}
+use Rattle.frame.specs.declared.Grants.the-variants.{None, One, Two, Three, Four}
+use Rattle.frame_range.specs.Fits.{fitsAll}
+use Rattle.head_gating.specs.declared.Leave.{Leave}
+use Rattle.head_gating.specs.declared.Asked.{Asked}
+
+-- the bit of that worth in the force octet, where grants 1 to 4 have 1, 2, 4, 8
+abbrev pub bitOf : ℕ → ℕ → Bool
+bitOf force worth = eqb (force / worth % 2) 1
+
+abbrev pub grantOf : Leave → Bool → Grant
+grantOf l force = record { start = l .start; length = l .length; force = force }
+
+-- the grant at each place, with its force bit
+abbrev pub first : Asked → Grant
+first a = grantOf (a .first) (eqb (a .force % 2) 1)
+
+abbrev pub second : Asked → Grant
+second a = grantOf (a .second) (bitOf (a .force) 2)
+
+abbrev pub third : Asked → Grant
+third a = grantOf (a .third) (bitOf (a .force) 4)
+
+abbrev pub fourth : Asked → Grant
+fourth a = grantOf (a .fourth) (bitOf (a .force) 8)
+
+-- as many of them as are asked for
+unfoldable pub grantsOf : Asked → Grants
+grantsOf a =
+    cond (eqb (a .number) 0) None
+    (cond (eqb (a .number) 1) (One (first a))
+    (cond (eqb (a .number) 2) (Two (first a) (second a))
+    (cond (eqb (a .number) 3) (Three (first a) (second a) (third a)) (Four (first a) (second a) (third a) (fourth a)))))
+
+-- the force bits of so many grants are below this
+unfoldable pub allowed : ℕ → ℕ
+allowed n = cond (eqb n 0) 1 (cond (eqb n 1) 2 (cond (eqb n 2) 4 (cond (eqb n 3) 8 16)))
+
+unfoldable pub fits : Asked → Bool
+fits a = ltb (a .force) (allowed (a .number)) && fitsAll true (listed (grantsOf a))
