@@ -8,11 +8,11 @@ ghost use Rattle.box_calls.specs.Box.{registerOf, deregisterOf, tickOf};
 ghost use Rattle.face_head_calls.specs.Calls.{left as headLeft, begunLeft, servedOf, heardOf as headHeard, begunOf, advanceLeft as headAdvanceLeft, advanceCall as headAdvance};
 ghost use Rattle.face_head_pass.specs.Quiet.{untilCall as headUntil};
 ghost use Rattle.face_head_calls.specs.Gate.{askedOf};
-ghost use Rattle.head_judging.specs.declared.Request.{Request as Requested};
+ghost use Rattle.head_judging.specs.declared.Call.{Call as Called};
 use clock::Count;
 use clock::Quanta;
 use frame::Address;
-use head_judging::Request;
+use head_judging::Call;
 
 // A box that has not begun.
 #[no_mangle]
@@ -148,10 +148,10 @@ pub extern "C" fn crustnewt_head_open(
     output: &mut [u8],
     reply: &mut [u64],
 ) -> u8
-    ensures { λ r. ⌜ headLeft r (now (head .exit)) (now (links .exit)) (now (output .exit)) (now (reply .exit)) ≡ servedOf (Requested.Open (record { 0 = start }) (record { 0 = length }) (record { 0 = sync }) (record { 0 = window })) (now (head .entry)) (now (links .entry)) (now (output .entry)) (now (reply .entry)) ⌝ }
+    ensures { λ r. ⌜ headLeft r (now (head .exit)) (now (links .exit)) (now (output .exit)) (now (reply .exit)) ≡ servedOf (Called.Open (record { 0 = start }) (record { 0 = length }) (record { 0 = sync }) (record { 0 = window })) (now (head .entry)) (now (links .entry)) (now (output .entry)) (now (reply .entry)) ⌝ }
 {
     face_head_calls::served(
-        Request::Open {
+        Call::Open {
             start: Count(start),
             length: Quanta(length),
             sync: Quanta(sync),
@@ -175,10 +175,10 @@ pub extern "C" fn crustnewt_head_admit(
     output: &mut [u8],
     reply: &mut [u64],
 ) -> u8
-    ensures { λ r. ⌜ headLeft r (now (head .exit)) (now (links .exit)) (now (output .exit)) (now (reply .exit)) ≡ servedOf (Requested.Admit (record { 0 = address }) pending (record { 0 = sync })) (now (head .entry)) (now (links .entry)) (now (output .entry)) (now (reply .entry)) ⌝ }
+    ensures { λ r. ⌜ headLeft r (now (head .exit)) (now (links .exit)) (now (output .exit)) (now (reply .exit)) ≡ servedOf (Called.Admit (record { 0 = address }) pending (record { 0 = sync })) (now (head .entry)) (now (links .entry)) (now (output .entry)) (now (reply .entry)) ⌝ }
 {
     face_head_calls::served(
-        Request::Admit {
+        Call::Admit {
             address: Address(address),
             pending,
             sync: Quanta(sync),
@@ -201,10 +201,10 @@ pub extern "C" fn crustnewt_head_reject(
     output: &mut [u8],
     reply: &mut [u64],
 ) -> u8
-    ensures { λ r. ⌜ headLeft r (now (head .exit)) (now (links .exit)) (now (output .exit)) (now (reply .exit)) ≡ servedOf (Requested.Reject (record { 0 = address }) pending (record { 0 = sync })) (now (head .entry)) (now (links .entry)) (now (output .entry)) (now (reply .entry)) ⌝ }
+    ensures { λ r. ⌜ headLeft r (now (head .exit)) (now (links .exit)) (now (output .exit)) (now (reply .exit)) ≡ servedOf (Called.Reject (record { 0 = address }) pending (record { 0 = sync })) (now (head .entry)) (now (links .entry)) (now (output .entry)) (now (reply .entry)) ⌝ }
 {
     face_head_calls::served(
-        Request::Reject {
+        Call::Reject {
             address: Address(address),
             pending,
             sync: Quanta(sync),
@@ -226,10 +226,10 @@ pub extern "C" fn crustnewt_head_reregister(
     output: &mut [u8],
     reply: &mut [u64],
 ) -> u8
-    ensures { λ r. ⌜ headLeft r (now (head .exit)) (now (links .exit)) (now (output .exit)) (now (reply .exit)) ≡ servedOf (Requested.Reregister link (record { 0 = sync })) (now (head .entry)) (now (links .entry)) (now (output .entry)) (now (reply .entry)) ⌝ }
+    ensures { λ r. ⌜ headLeft r (now (head .exit)) (now (links .exit)) (now (output .exit)) (now (reply .exit)) ≡ servedOf (Called.Reregister link (record { 0 = sync })) (now (head .entry)) (now (links .entry)) (now (output .entry)) (now (reply .entry)) ⌝ }
 {
     face_head_calls::served(
-        Request::Reregister {
+        Call::Reregister {
             link,
             sync: Quanta(sync),
         },
@@ -249,9 +249,9 @@ pub extern "C" fn crustnewt_head_deregister(
     output: &mut [u8],
     reply: &mut [u64],
 ) -> u8
-    ensures { λ r. ⌜ headLeft r (now (head .exit)) (now (links .exit)) (now (output .exit)) (now (reply .exit)) ≡ servedOf (Requested.Deregister link) (now (head .entry)) (now (links .entry)) (now (output .entry)) (now (reply .entry)) ⌝ }
+    ensures { λ r. ⌜ headLeft r (now (head .exit)) (now (links .exit)) (now (output .exit)) (now (reply .exit)) ≡ servedOf (Called.Deregister link) (now (head .entry)) (now (links .entry)) (now (output .entry)) (now (reply .entry)) ⌝ }
 {
-    face_head_calls::served(Request::Deregister { link }, head, links, output, reply)
+    face_head_calls::served(Call::Deregister { link }, head, links, output, reply)
 }
 
 // The client sends a GATE, one word a grant.
@@ -265,10 +265,10 @@ pub extern "C" fn crustnewt_head_gate(
     output: &mut [u8],
     reply: &mut [u64],
 ) -> u8
-    ensures { λ r. ⌜ headLeft r (now (head .exit)) (now (links .exit)) (now (output .exit)) (now (reply .exit)) ≡ servedOf (Requested.Gate link (askedOf (now (grants .entry)) force)) (now (head .entry)) (now (links .entry)) (now (output .entry)) (now (reply .entry)) ⌝ }
+    ensures { λ r. ⌜ headLeft r (now (head .exit)) (now (links .exit)) (now (output .exit)) (now (reply .exit)) ≡ servedOf (Called.Gate link (askedOf (now (grants .entry)) force)) (now (head .entry)) (now (links .entry)) (now (output .entry)) (now (reply .entry)) ⌝ }
 {
     let asked = face_head_calls::asked(grants, force);
-    face_head_calls::served(Request::Gate { link, asked }, head, links, output, reply)
+    face_head_calls::served(Call::Gate { link, asked }, head, links, output, reply)
 }
 
 // The octets of a frame that came on a link, read and heard.
@@ -294,7 +294,7 @@ pub extern "C" fn crustnewt_head_tick(
     output: &mut [u8],
     reply: &mut [u64],
 ) -> u8
-    ensures { λ r. ⌜ headLeft r (now (head .exit)) (now (links .exit)) (now (output .exit)) (now (reply .exit)) ≡ servedOf Requested.Tick (now (head .entry)) (now (links .entry)) (now (output .entry)) (now (reply .entry)) ⌝ }
+    ensures { λ r. ⌜ headLeft r (now (head .exit)) (now (links .exit)) (now (output .exit)) (now (reply .exit)) ≡ servedOf Called.Tick (now (head .entry)) (now (links .entry)) (now (output .entry)) (now (reply .entry)) ⌝ }
 {
     face_head_calls::tick(head, links, output, reply)
 }

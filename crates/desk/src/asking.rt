@@ -4,7 +4,7 @@ use clock::Count;
 use frame::Address;
 use head_gating::Asked;
 use head_gating::Leave;
-use head_judging::Request;
+use head_judging::Call;
 use script::messages;
 use script::words;
 use script::words::Numbers;
@@ -12,8 +12,8 @@ use script::words::Numbers;
 // The names that `place` knows.
 pub const PLACES: usize = 6;
 
-fn open(of: [u64; 15]) -> Request {
-    Request::Open {
+fn open(of: [u64; 15]) -> Call {
+    Call::Open {
         start: Count(messages::modulo_32(of[0])),
         length: messages::quanta(of[1]),
         sync: messages::quanta(of[2]),
@@ -21,31 +21,31 @@ fn open(of: [u64; 15]) -> Request {
     }
 }
 
-fn admit(of: [u64; 15]) -> Request {
-    Request::Admit {
+fn admit(of: [u64; 15]) -> Call {
+    Call::Admit {
         address: Address(of[0]),
         pending: messages::modulo_8(of[1]),
         sync: messages::quanta(of[2]),
     }
 }
 
-fn reject(of: [u64; 15]) -> Request {
-    Request::Reject {
+fn reject(of: [u64; 15]) -> Call {
+    Call::Reject {
         address: Address(of[0]),
         pending: messages::modulo_8(of[1]),
         sync: messages::quanta(of[2]),
     }
 }
 
-fn reregister(of: [u64; 15]) -> Request {
-    Request::Reregister {
+fn reregister(of: [u64; 15]) -> Call {
+    Call::Reregister {
         link: of[0] as usize,
         sync: messages::quanta(of[1]),
     }
 }
 
-fn deregister(of: [u64; 15]) -> Request {
-    Request::Deregister {
+fn deregister(of: [u64; 15]) -> Call {
+    Call::Deregister {
         link: of[0] as usize,
     }
 }
@@ -68,7 +68,7 @@ fn leaves(number: usize) -> usize {
 }
 
 // Of more than four grants the first four are handed in.
-fn gate(n: Numbers) -> Request {
+fn gate(n: Numbers) -> Call {
     let of = n.of;
     let asked = Asked {
         number: leaves(n.number),
@@ -79,14 +79,14 @@ fn gate(n: Numbers) -> Request {
         force: messages::modulo_8(of[1]),
     };
     let link = of[0] as usize;
-    Request::Gate { link, asked }
+    Call::Gate { link, asked }
 }
 
 pub fn place(name: &[u8]) -> usize {
     words::place(name, b"open admit reject reregister deregister gate")
 }
 
-pub fn at(place: usize, n: Numbers) -> Request {
+pub fn at(place: usize, n: Numbers) -> Call {
     let of = n.of;
     match place {
         0 => open(of),

@@ -5,7 +5,7 @@ use crate::run;
 use crate::state::Desk;
 use bytes::scan;
 use frame::Address;
-use head_judging::Request;
+use head_judging::Call;
 use script::messages;
 use script::words;
 use script::words::Numbers;
@@ -59,7 +59,7 @@ fn hear(desk: Desk, link: u64, name: &[u8], n: Numbers) -> Desk {
     }
     let link = link as usize;
     let message = messages::message(name, n);
-    run::ask(desk, Request::Hear { link, message })
+    run::ask(desk, Call::Hear { link, message })
 }
 
 fn hear_on(desk: Desk, link: u64, line: &[u8]) -> Desk {

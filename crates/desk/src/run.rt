@@ -5,7 +5,7 @@ use desk_table::Served;
 use frame::Address;
 use frame::Reply;
 use head_calls::Answer;
-use head_judging::Request;
+use head_judging::Call;
 use head_links::Link;
 use head_state::Head;
 use head_state::Window;
@@ -39,11 +39,11 @@ pub fn fresh(desk: Desk, address: Address) -> Desk {
     desk.with_head(head).with_links(links)
 }
 
-fn serve(desk: Desk, request: Request) -> Served {
+fn serve(desk: Desk, call: Call) -> Served {
     let head = desk.head;
     let links = desk.links;
     let out = desk.out;
-    desk_table::serve(head, links, request, out, desk.lent)
+    desk_table::serve(head, links, call, out, desk.lent)
 }
 
 fn tell_served(before: [Link; 3], served: Served) {
@@ -70,9 +70,9 @@ fn after(desk: Desk, served: Served) -> Desk {
     }
 }
 
-pub fn ask(desk: Desk, request: Request) -> Desk {
+pub fn ask(desk: Desk, call: Call) -> Desk {
     let before = desk.links;
-    let served = serve(desk, request);
+    let served = serve(desk, call);
     tell_served(before, served);
     after(desk, served)
 }
@@ -107,7 +107,7 @@ fn matters(desk: Desk, served: Served) -> bool {
 // The k-th tick of a line.
 fn tick(desk: Desk, k: u64) -> Desk {
     let before = desk.links;
-    let served = serve(desk, Request::Tick);
+    let served = serve(desk, Call::Tick);
     if matters(desk, served) {
         out::text(b" ");
         out::number(k);
@@ -129,7 +129,7 @@ pub fn ticks(desk: Desk, number: u64) -> Desk {
 
 pub fn advance(desk: Desk, number: u64) -> Desk {
     let before = desk.links;
-    let served = serve(desk, Request::Advance(number));
+    let served = serve(desk, Call::Advance(number));
     let answer = served.answer;
     tell_served(before, served);
     out::text(b"  made");

@@ -5,7 +5,7 @@ use mathlib.Core.List.{List, _++_}
 use lib.ListN.{take, drop}
 use Rattle.frame.specs.declared.Address.{Address}
 use Rattle.head_state.specs.declared.Head.{Head}
-use Rattle.head_judging.specs.declared.Request.{Request}
+use Rattle.head_judging.specs.declared.Call.{Call}
 use Rattle.head_links.specs.declared.Link.{Link}
 use Rattle.head_calls.specs.declared.Answer.{Answer}
 use Rattle.head_calls.specs.Fresh.{freshOf}
@@ -20,7 +20,7 @@ abbrev pub cleared : Answer → List Link → Begun
 cleared a xs = record { answer = a; links = xs }
 
 -- a call that is lent the whole table and the output's first k octets; the others stay
-unfoldable pub lentOf : Head → List Link → Request → List ℕ → ℕ → Served
+unfoldable pub lentOf : Head → List Link → Call → List ℕ → ℕ → Served
 lentOf h xs r os k =
     let done = serveOf h xs r (take k os) in
     handed (done .answer) (done .table) (done .octets ++ drop k os)

@@ -4,7 +4,7 @@ ghost use Prim.Native.Nat.{_≤_, min};
 ghost use Rattle.desk_table.specs.Lent.{handed, lentOf, cleared, clearedOf};
 use frame::Address;
 use head_calls::Answer;
-use head_judging::Request;
+use head_judging::Call;
 use head_links::Link;
 use head_state::Head;
 
@@ -46,21 +46,21 @@ fn at_most(lent: usize) -> usize
     }
 }
 
-fn lend(head: Head, links: [Link; 3], request: Request, out: [u8; 180], lent: usize) -> Served
+fn lend(head: Head, links: [Link; 3], call: Call, out: [u8; 180], lent: usize) -> Served
     requires { ⌜ lent ≤ 180 ⌝ }
-    ensures { λ r. ⌜ r ≡ lentOf head links request out lent ⌝ }
+    ensures { λ r. ⌜ r ≡ lentOf head links call out lent ⌝ }
 {
     let mut table = links;
     let mut octets = out;
-    let answer = head_calls::serve(head, &mut table, request, &mut octets[..lent]);
+    let answer = head_calls::serve(head, &mut table, call, &mut octets[..lent]);
     hand_back(answer, table, octets)
 }
 
 // Of the output the first so many octets are lent, at most all; the others stay.
-pub fn serve(head: Head, links: [Link; 3], request: Request, out: [u8; 180], lent: usize) -> Served
-    ensures { λ r. ⌜ r ≡ lentOf head links request out (min lent 180) ⌝ }
+pub fn serve(head: Head, links: [Link; 3], call: Call, out: [u8; 180], lent: usize) -> Served
+    ensures { λ r. ⌜ r ≡ lentOf head links call out (min lent 180) ⌝ }
 {
-    lend(head, links, request, out, at_most(lent))
+    lend(head, links, call, out, at_most(lent))
 }
 
 pub fn fresh(address: Address, links: [Link; 3]) -> Begun

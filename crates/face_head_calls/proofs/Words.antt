@@ -26,7 +26,7 @@ use Rattle.face_head.specs.Laws.{links-few, length-links, length-table}
 use Rattle.face_head.specs.Table.{tableWords, linksOf, linksIn, linksAt, roomOf, loaded, stored}
 use Rattle.face_head.specs.Told.{toldWords, noticeWords}
 use Rattle.head_judging.specs.Judge.{hasRoom}
-use Rattle.head_judging.specs.declared.Request.{Request}
+use Rattle.head_judging.specs.declared.Call.{Call}
 use Rattle.lent.specs.Folds.{places}
 use Rattle.lent.proofs.Folds.{up-all, up-length}
 use Rattle.head_links.specs.Link.{idle}
@@ -45,7 +45,7 @@ length-places : (f : ℕ → Link → Link) (k : ℕ) (xs : List Link) → lengt
 length-places f k xs = sym (ap length (up-all f k xs (length xs) (le-refl (length xs)))) ∙ up-length f k xs (length xs)
 
 -- no call changes how many links there are
-length-served : (h : Head) (xs : List Link) (r : Request) (os : List ℕ) → length (serveOf h xs r os .table) ≡ length xs
+length-served : (h : Head) (xs : List Link) (r : Call) (os : List ℕ) → length (serveOf h xs r os .table) ≡ length xs
 unfolding serveOf doneOf
 length-served h xs r os = length-places _ 1 xs
 
@@ -98,7 +98,7 @@ kept-laid : (a : Answer) (ls : List Link) (m : ℕ) (ws : List ℕ) → length l
 unfolding keptOf keptLinks
 kept-laid a ls m ws e f = laid-by (isDone (a .reply)) ls m ws e f
 
-pub lent-is : (h : Head) (ws : List ℕ) (xs : List Link) (r : Request) (os : List ℕ) → length xs ≡ linksIn (length ws)
+pub lent-is : (h : Head) (ws : List ℕ) (xs : List Link) (r : Call) (os : List ℕ) → length xs ≡ linksIn (length ws)
     → lendOf h ws xs r os
     ≡ lendLeft (serveOf h (linksAt ws) r os .answer) (keptLinks (serveOf h (linksAt ws) r os .answer) (serveOf h (linksAt ws) r os .table) ws)
     (serveOf h (linksAt ws) r os .octets)
@@ -140,7 +140,7 @@ cleared-is a ws xs e =
     ∙ fresh-alike a ws xs (linksAt ws) (e ∙ sym (length-links (linksIn (length ws)) ws))
 
 -- the core's call, of what each step of it left
-pub answered-whole : (r : Request) (head links output : List ℕ) (h : Head) (n : ℕ) (a : Answer) (head′ links′ output′ : List ℕ)
+pub answered-whole : (r : Call) (head links output : List ℕ) (h : Head) (n : ℕ) (a : Answer) (head′ links′ output′ : List ℕ)
     → h ≡ headAt head → n ≡ linksIn (length links)
     → lendLeft a links′ output′ ≡ lendOf h links (replicate n idle) r output → head′ ≡ keptHead a head
     → answerLeft a head′ links′ output′ ≡ answeredOf r head links output
@@ -154,7 +154,7 @@ answered-whole r head links output h n a head′ links′ output′ at few said 
     ∙ ap (λ (u : LendLeft). answerLeft (u .answer) (keptHead (u .answer) head) (u .words) (u .octets)) whole
 
 -- and what is told of it
-told-whole : (r : Request) (head links output reply : List ℕ) (a : Answer) (head′ links′ output′ reply′ : List ℕ) (k : ℕ)
+told-whole : (r : Call) (head links output reply : List ℕ) (a : Answer) (head′ links′ output′ reply′ : List ℕ) (k : ℕ)
     → answerLeft a head′ links′ output′ ≡ answeredOf r head links output → told k reply′ ≡ toldOf a reply
     → left k head′ links′ output′ reply′ ≡ handed (serveOf (headAt head) (linksAt links) r output) head links reply
 unfolding answeredOf handed toldOf
@@ -162,7 +162,7 @@ told-whole r head links output reply a head′ links′ output′ reply′ k sai
     ap (λ (u : Told). left (u .number) head′ links′ output′ (u .reply)) tells
     ∙ ap (λ (u : AnswerLeft). left (numberOf (u .answer .reply)) (u .head) (u .links) (u .output) (laid (toldWords (u .answer)) reply)) said
 
-pub served-whole : (r : Request) (head links output reply : List ℕ) (t : Bool) (a : Answer) (head′ links′ output′ reply′ : List ℕ) (k : ℕ)
+pub served-whole : (r : Call) (head links output reply : List ℕ) (t : Bool) (a : Answer) (head′ links′ output′ reply′ : List ℕ) (k : ℕ)
     → t ≡ isLent (length head) (length reply) → t ≡ true
     → answerLeft a head′ links′ output′ ≡ answeredOf r head links output → told k reply′ ≡ toldOf a reply
     → left k head′ links′ output′ reply′ ≡ servedOf r head links output reply
@@ -172,13 +172,13 @@ served-whole r head links output reply t a head′ links′ output′ reply′ k
     ∙ ap (λ (b : Bool). cond b (handed (serveOf (headAt head) (linksAt links) r output) head links reply) (left 100 head links output reply)) (sym taken ∙ lent)
 
 pub advanced-whole : (n : ℕ) (head links output reply made : List ℕ) (a : Answer) (head′ links′ output′ reply′ made′ : List ℕ) (k : ℕ)
-    → answerLeft a head′ links′ output′ ≡ answeredOf (Request.Advance n) head links output → told k reply′ ≡ toldOf a reply
+    → answerLeft a head′ links′ output′ ≡ answeredOf (Call.Advance n) head links output → told k reply′ ≡ toldOf a reply
     → made′ ≡ laid (a .made ∷ []) made
     → advanceLeft (left k head′ links′ output′ reply′) made′ ≡ advancedOf n head links output reply made
 unfolding advancedOf answeredOf
 advanced-whole n head links output reply made a head′ links′ output′ reply′ made′ k said tells makes =
-    let done : Served = serveOf (headAt head) (linksAt links) (Request.Advance n) output in
-    ap (λ (l : Left). advanceLeft l made′) (told-whole (Request.Advance n) head links output reply a head′ links′ output′ reply′ k said tells)
+    let done : Served = serveOf (headAt head) (linksAt links) (Call.Advance n) output in
+    ap (λ (l : Left). advanceLeft l made′) (told-whole (Call.Advance n) head links output reply a head′ links′ output′ reply′ k said tells)
     ∙ ap (advanceLeft (handed done head links reply)) (makes ∙ ap (λ (u : AnswerLeft). laid (u .answer .made ∷ []) made) said)
 
 -- ---- quiet ticks, passed in place
@@ -203,13 +203,13 @@ module _ (head links output : List ℕ) (room : hasRoom (linksIn (length links))
     unfolding advancedOf handed keptHead keptLinks laidHead toldWords
     passed-by reach made made′ makes =
         let q = quietly head links (omega (arith, lo, hi)) in
-        let e : serveOf (headAt head) (linksAt links) (Request.Advance k) output ≡ withMade k (stillAt (afterOf (headAt head) k) (passedAll (linksAt links) k) output) =
+        let e : serveOf (headAt head) (linksAt links) (Call.Advance k) output ≡ withMade k (stillAt (afterOf (headAt head) k) (passedAll (linksAt links) k) output) =
         quiet-advance (headAt head) (linksAt links) output (ready (omega (arith, lo, hi))) k reach (omega (arith, hi, q .until)) in
         rw (e, makes) (ap (λ (l : Left). advanceLeft l (laid (k ∷ []) made)) still)
 
   pub ticked-by : 1 ≤ untilCall head links → (reply head′ links′ reply′ : List ℕ)
       → head′ ≡ passedHead head 1 → links′ ≡ passedLinks links 1 → reply′ ≡ laid (replicate 2 0) reply → isLent (length head) (length reply) ≡ true
-      → left 0 head′ links′ output reply′ ≡ servedOf Request.Tick head links output reply
+      → left 0 head′ links′ output reply′ ≡ servedOf Call.Tick head links output reply
   unfolding servedOf
   ticked-by h reply head′ links′ reply′ heads tables tells lent =
       let q = quietly head links h in

@@ -15,7 +15,7 @@ use Rattle.face_head.specs.Head.{headWords}
 use Rattle.face_head.specs.Table.{tableWords, linksIn, linksAt}
 use Rattle.face_head.specs.Told.{toldWords}
 use Rattle.head_judging.specs.Judge.{hasRoom}
-use Rattle.head_judging.specs.declared.Request.{Request}
+use Rattle.head_judging.specs.declared.Call.{Call}
 use Rattle.head_links.specs.declared.Link.{Link}
 use Rattle.frame_reader.specs.Decode.{readOf}
 use Rattle.head_calls.specs.Fresh.{Freshly, isDone, freshOf}
@@ -80,7 +80,7 @@ pub record AnswerLeft : Type 0 where
 abbrev pub answerLeft : Answer → List ℕ → List ℕ → List ℕ → AnswerLeft
 answerLeft a head links output = record { answer = a; head = head; links = links; output = output }
 
-unfoldable pub answeredOf : Request → List ℕ → List ℕ → List ℕ → AnswerLeft
+unfoldable pub answeredOf : Call → List ℕ → List ℕ → List ℕ → AnswerLeft
 answeredOf r head links output =
     let done = serveOf (headAt head) (linksAt links) r output in
     answerLeft (done .answer) (keptHead (done .answer) head) (keptLinks (done .answer) (done .table) links) (done .octets)
@@ -92,7 +92,7 @@ handed done head links reply =
     left (numberOf (a .reply)) (keptHead a head) (keptLinks a (done .table) links) (done .octets) (laid (toldWords a) reply)
 
 -- a call is the core's, of the head in the block and the links in the words; where too little is lent it is 100, and nothing is touched
-unfoldable pub servedOf : Request → List ℕ → List ℕ → List ℕ → List ℕ → Left
+unfoldable pub servedOf : Call → List ℕ → List ℕ → List ℕ → List ℕ → Left
 servedOf r head links output reply =
     cond (isLent (length head) (length reply)) (handed (serveOf (headAt head) (linksAt links) r output) head links reply)
     (left 100 head links output reply)
@@ -108,7 +108,7 @@ advanceLeft l made = record { call = l; made = made }
 -- an advance is the core's too, and the first word of `made` the number of ticks made
 unfoldable pub advancedOf : ℕ → List ℕ → List ℕ → List ℕ → List ℕ → List ℕ → AdvanceLeft
 advancedOf n head links output reply made =
-    let done = serveOf (headAt head) (linksAt links) (Request.Advance n) output in
+    let done = serveOf (headAt head) (linksAt links) (Call.Advance n) output in
     advanceLeft (handed done head links reply) (laid (done .answer .made ∷ []) made)
 
 unfoldable pub advanceCall : ℕ → List ℕ → List ℕ → List ℕ → List ℕ → List ℕ → AdvanceLeft
@@ -130,7 +130,7 @@ unfoldable pub heardOf : ℕ → List ℕ → List ℕ → List ℕ → List ℕ
 heardOf link octets head links output reply =
     let r = readOf octets in
     let no = refusedOf (r .reply) head reply in
-    cond (eqb (numberOf (r .reply)) 0) (servedOf (Request.Hear link (r .message)) head links output reply)
+    cond (eqb (numberOf (r .reply)) 0) (servedOf (Call.Hear link (r .message)) head links output reply)
     (left (no .number) head links output (no .reply))
 
 -- a table of no allowed size leaves the block as it was; a head that is refused for its address holds address zero

@@ -7,7 +7,7 @@ use lib.ListN.{length}
 use Rattle.frame.specs.declared.Address.{Address}
 use Rattle.head_state.specs.declared.Head.{Head}
 use Rattle.face_head.specs.Table.{loaded, stored}
-use Rattle.head_judging.specs.declared.Request.{Request}
+use Rattle.head_judging.specs.declared.Call.{Call}
 use Rattle.head_links.specs.declared.Link.{Link}
 use Rattle.head_calls.specs.Fresh.{isDone, freshOf}
 use Rattle.head_calls.specs.Serve.{serveOf}
@@ -26,7 +26,7 @@ pub record LendLeft : Type 0 where
 abbrev pub lendLeft : Answer → List ℕ → List ℕ → LendLeft
 lendLeft a ws os = record { answer = a; words = ws; octets = os }
 
-unfoldable pub lendOf : Head → List ℕ → List Link → Request → List ℕ → LendLeft
+unfoldable pub lendOf : Head → List ℕ → List Link → Call → List ℕ → LendLeft
 lendOf h ws xs r os =
     let done = serveOf h (loaded ws xs) r os in
     lendLeft (done .answer) (stored (done .table) (keptOf (done .answer) (length xs)) ws) (done .octets)

@@ -9,7 +9,7 @@ ghost use Rattle.face_head_calls.specs.Lend.{keptOf, lendLeft, lendOf, c
 ghost use Rattle.face_head_pass.specs.Quiet.{untilCall};
 ghost use Rattle.face_head.specs.Table.{linksIn};
 ghost use Rattle.head_judging.specs.Judge.{hasRoom};
-ghost use Rattle.head_judging.specs.declared.Request.{Request as Requested};
+ghost use Rattle.head_judging.specs.declared.Call.{Call as Called};
 ghost use Rattle.head_links.specs.Link.{idle};
 ghost use Rattle.face_words.specs.Words.{laid};
 use clock::Count;
@@ -19,7 +19,7 @@ use frame::Reply;
 use head_calls::Answer;
 use head_gating::Asked;
 use head_gating::Leave;
-use head_judging::Request;
+use head_judging::Call;
 use head_links::Link;
 use head_state::Head;
 
@@ -55,17 +55,11 @@ fn kept(answer: Answer, links: usize) -> usize
 }
 
 // The lent links are those in the words for as long as the call takes.
-fn lend(
-    head: Head,
-    words: &mut [u64],
-    links: &mut [Link],
-    request: Request,
-    out: &mut [u8],
-) -> Answer
-    ensures { λ r. ⌜ lendLeft r (now (words .exit)) (now (out .exit)) ≡ lendOf head (now (words .entry)) (now (links .entry)) request (now (out .entry)) ⌝ }
+fn lend(head: Head, words: &mut [u64], links: &mut [Link], call: Call, out: &mut [u8]) -> Answer
+    ensures { λ r. ⌜ lendLeft r (now (words .exit)) (now (out .exit)) ≡ lendOf head (now (words .entry)) (now (links .entry)) call (now (out .entry)) ⌝ }
 {
     face_head::load_links(words, links);
-    let answer = head_calls::serve(head, links, request, out);
+    let answer = head_calls::serve(head, links, call, out);
     face_head::store_links(links, kept(answer, links.len()), words);
     answer
 }
@@ -91,20 +85,20 @@ fn many() -> [Link; 64]
     [Link::idle(); 64]
 }
 
-fn lend_few(head: Head, words: &mut [u64], n: usize, request: Request, out: &mut [u8]) -> Answer
+fn lend_few(head: Head, words: &mut [u64], n: usize, call: Call, out: &mut [u8]) -> Answer
     requires { ⌜ n ≤ 8 ⌝ }
-    ensures { λ r. ⌜ lendLeft r (now (words .exit)) (now (out .exit)) ≡ lendOf head (now (words .entry)) (replicate n idle) request (now (out .entry)) ⌝ }
+    ensures { λ r. ⌜ lendLeft r (now (words .exit)) (now (out .exit)) ≡ lendOf head (now (words .entry)) (replicate n idle) call (now (out .entry)) ⌝ }
 {
     let mut table = few();
-    lend(head, words, &mut table[..n], request, out)
+    lend(head, words, &mut table[..n], call, out)
 }
 
-fn lend_many(head: Head, words: &mut [u64], n: usize, request: Request, out: &mut [u8]) -> Answer
+fn lend_many(head: Head, words: &mut [u64], n: usize, call: Call, out: &mut [u8]) -> Answer
     requires { ⌜ n ≤ 64 ⌝ }
-    ensures { λ r. ⌜ lendLeft r (now (words .exit)) (now (out .exit)) ≡ lendOf head (now (words .entry)) (replicate n idle) request (now (out .entry)) ⌝ }
+    ensures { λ r. ⌜ lendLeft r (now (words .exit)) (now (out .exit)) ≡ lendOf head (now (words .entry)) (replicate n idle) call (now (out .entry)) ⌝ }
 {
     let mut table = many();
-    lend(head, words, &mut table[..n], request, out)
+    lend(head, words, &mut table[..n], call, out)
 }
 
 fn clear_many(address: Address, words: &mut [u64], n: usize) -> Answer
@@ -116,14 +110,14 @@ fn clear_many(address: Address, words: &mut [u64], n: usize) -> Answer
 }
 
 // Most tables are small, and a table of many links takes long to make.
-fn lend_all(head: Head, words: &mut [u64], n: usize, request: Request, out: &mut [u8]) -> Answer
+fn lend_all(head: Head, words: &mut [u64], n: usize, call: Call, out: &mut [u8]) -> Answer
     requires { ⌜ n ≤ 64 ⌝ }
-    ensures { λ r. ⌜ lendLeft r (now (words .exit)) (now (out .exit)) ≡ lendOf head (now (words .entry)) (replicate n idle) request (now (out .entry)) ⌝ }
+    ensures { λ r. ⌜ lendLeft r (now (words .exit)) (now (out .exit)) ≡ lendOf head (now (words .entry)) (replicate n idle) call (now (out .entry)) ⌝ }
 {
     if n <= FEW {
-        return lend_few(head, words, n, request, out);
+        return lend_few(head, words, n, call, out);
     }
-    lend_many(head, words, n, request, out)
+    lend_many(head, words, n, call, out)
 }
 
 fn is_lent(head: usize, reply: usize) -> bool
@@ -160,28 +154,28 @@ fn tell(answer: Answer, reply: &mut [u64]) -> u8
 }
 
 // The core's call of the head in the block, over the links that the words tell.
-fn answered(request: Request, head: &mut [u64], links: &mut [u64], out: &mut [u8]) -> Answer
-    ensures { λ r. ⌜ answerLeft r (now (head .exit)) (now (links .exit)) (now (out .exit)) ≡ answeredOf request (now (head .entry)) (now (links .entry)) (now (out .entry)) ⌝ }
+fn answered(call: Call, head: &mut [u64], links: &mut [u64], out: &mut [u8]) -> Answer
+    ensures { λ r. ⌜ answerLeft r (now (head .exit)) (now (links .exit)) (now (out .exit)) ≡ answeredOf call (now (head .entry)) (now (links .entry)) (now (out .entry)) ⌝ }
 {
     let h = face_head_pass::load_head(head);
     let n = face_head::links_in(links.len());
-    let answer = lend_all(h, links, n, request, out);
+    let answer = lend_all(h, links, n, call, out);
     keep_head(answer, head);
     answer
 }
 
 // A call of the head in the block, over the links that the words tell.
 pub fn served(
-    request: Request,
+    call: Call,
     head: &mut [u64],
     links: &mut [u64],
     out: &mut [u8],
     reply: &mut [u64],
 ) -> u8
-    ensures { λ r. ⌜ left r (now (head .exit)) (now (links .exit)) (now (out .exit)) (now (reply .exit)) ≡ servedOf request (now (head .entry)) (now (links .entry)) (now (out .entry)) (now (reply .entry)) ⌝ }
+    ensures { λ r. ⌜ left r (now (head .exit)) (now (links .exit)) (now (out .exit)) (now (reply .exit)) ≡ servedOf call (now (head .entry)) (now (links .entry)) (now (out .entry)) (now (reply .entry)) ⌝ }
 {
     if is_lent(head.len(), reply.len()) {
-        let answer = answered(request, head, links, out);
+        let answer = answered(call, head, links, out);
         return tell(answer, reply);
     }
     SHORT
@@ -221,7 +215,7 @@ pub fn heard(
     let why = reading.reply;
     let message = reading.message;
     if why.number() == 0 {
-        return served(Request::Hear { link, message }, head, links, out, reply);
+        return served(Call::Hear { link, message }, head, links, out, reply);
     }
     refused(why, head, reply)
 }
@@ -292,7 +286,7 @@ fn has_room(links: usize, octets: usize) -> bool
 
 // One quantum has passed. A quiet tick is made in place.
 pub fn tick(head: &mut [u64], links: &mut [u64], out: &mut [u8], reply: &mut [u64]) -> u8
-    ensures { λ r. ⌜ left r (now (head .exit)) (now (links .exit)) (now (out .exit)) (now (reply .exit)) ≡ servedOf Requested.Tick (now (head .entry)) (now (links .entry)) (now (out .entry)) (now (reply .entry)) ⌝ }
+    ensures { λ r. ⌜ left r (now (head .exit)) (now (links .exit)) (now (out .exit)) (now (reply .exit)) ≡ servedOf Called.Tick (now (head .entry)) (now (links .entry)) (now (out .entry)) (now (reply .entry)) ⌝ }
 {
     if is_lent(head.len(), reply.len()) {
         if has_room(links.len(), out.len()) {
@@ -304,7 +298,7 @@ pub fn tick(head: &mut [u64], links: &mut [u64], out: &mut [u8], reply: &mut [u6
             }
         }
     }
-    served(Request::Tick, head, links, out, reply)
+    served(Call::Tick, head, links, out, reply)
 }
 
 // How many ticks of the head hand out nothing: those before the first at which a link rings.
@@ -342,7 +336,7 @@ fn advanced(
 ) -> u8
     ensures { λ r. ⌜ advanceLeft (left r (now (head .exit)) (now (links .exit)) (now (out .exit)) (now (reply .exit))) (now (made .exit)) ≡ advancedOf n (now (head .entry)) (now (links .entry)) (now (out .entry)) (now (reply .entry)) (now (made .entry)) ⌝ }
 {
-    let answer = answered(Request::Advance(n), head, links, out);
+    let answer = answered(Call::Advance(n), head, links, out);
     lay_made(answer.made, made);
     tell(answer, reply)
 }

@@ -17,7 +17,7 @@ use Rattle.head_state.specs.declared.Head.{Head}
 use Rattle.head_links.specs.declared.Link.{Link}
 use Rattle.head_survey.specs.Facts.{soundTable}
 use Rattle.head_judging.specs.Judge.{hasRoom}
-use Rattle.head_judging.specs.declared.Request.{Request}
+use Rattle.head_judging.specs.declared.Call.{Call}
 use Rattle.head_calls.specs.Serve.{Served, serveOf}
 use Rattle.head_laws.specs.Refusals.{call-reply, refused-unchanged}
 use Rattle.face_words.specs.Words.{laid}
@@ -30,7 +30,7 @@ use Rattle.face_laws.proofs.HeadStands.{enough, head-repacked}
 
 -- where a word is lent for the number made
 pub as-request : (n : ℕ) (head links output reply made : List ℕ) → leb 1 (length made) ≡ true
-    → advanceCall n head links output reply made .call ≡ servedOf (Request.Advance n) head links output reply
+    → advanceCall n head links output reply made .call ≡ servedOf (Call.Advance n) head links output reply
 unfolding advanceCall advancedOf servedOf
 as-request n head links output reply made h =
     ⊎-elim (λ (e : isLent (length head) (length reply) ≡ true). rw (e, h)) (λ (e : isLent (length head) (length reply) ≡ false). rw e)
@@ -43,24 +43,24 @@ unfolding advanceCall
 as-short n head links output reply made h = rw (h, and-false (isLent (length head) (length reply)))
 
 pub as-handed : (n : ℕ) (head links output reply made : List ℕ) → isLent (length head) (length reply) ≡ true → leb 1 (length made) ≡ true
-    → (x : Served) → serveOf (headAt head) (linksAt links) (Request.Advance n) output ≡ x
+    → (x : Served) → serveOf (headAt head) (linksAt links) (Call.Advance n) output ≡ x
     → advanceCall n head links output reply made ≡ advanceLeft (handed x head links reply) (laid (x .answer .made ∷ []) made)
 unfolding advanceCall advancedOf
 as-handed n head links output reply made e h x s = rw (e, h, s)
 
 -- the tests in their order, of what is sound
 module _ (h : Head) (xs : List Link) (n : ℕ) (os : List ℕ) (s : soundOf h ≡ true) (t : soundTable xs ≡ true) where
-  pub narrow : leb (60 * length xs) (length os) ≡ false → numberOf (serveOf h xs (Request.Advance n) os .answer .reply) ≡ 12
+  pub narrow : leb (60 * length xs) (length os) ≡ false → numberOf (serveOf h xs (Call.Advance n) os .answer .reply) ≡ 12
   unfolding hasRoom
-  narrow r = ap numberOf (call-reply h xs (Request.Advance n) os) ∙ rw (s, t, r)
+  narrow r = ap numberOf (call-reply h xs (Call.Advance n) os) ∙ rw (s, t, r)
 
-  pub far : leb (60 * length xs) (length os) ≡ true → inReach n ≡ false → numberOf (serveOf h xs (Request.Advance n) os .answer .reply) ≡ 9
+  pub far : leb (60 * length xs) (length os) ≡ true → inReach n ≡ false → numberOf (serveOf h xs (Call.Advance n) os .answer .reply) ≡ 9
   unfolding hasRoom
-  far r i = ap numberOf (call-reply h xs (Request.Advance n) os) ∙ rw (s, t, r, i)
+  far r i = ap numberOf (call-reply h xs (Call.Advance n) os) ∙ rw (s, t, r, i)
 
 module _ (n : ℕ) (head links output reply made : List ℕ) (d : 1 ≤ length made) (a : 5 ≤ length head) (c : 5 ≤ length reply) where
   abbrev x : Served
-  x = serveOf (headAt head) (linksAt links) (Request.Advance n) output
+  x = serveOf (headAt head) (linksAt links) (Call.Advance n) output
 
   is : headLeft n head links output reply made ≡ advanceLeft (handed x head links reply) (laid (x .answer .made ∷ []) made)
   is = as-handed n head links output reply made (enough head reply a c) (le-leb 1 (length made) d) x refl
@@ -86,7 +86,7 @@ module _ (n : ℕ) (head links output reply made : List ℕ) (d : 1 ≤ length m
   unfolding handed keptHead keptLinks
   refused z =
       let bad : numberOf (x .answer .reply) ≢ 0 = λ (e : numberOf (x .answer .reply) ≡ 0). z (number ∙ e) in
-      let u = refused-unchanged (headAt head) (linksAt links) (Request.Advance n) output (λ (e : x .answer .reply ≡ Done). bad (ap numberOf e)) in
+      let u = refused-unchanged (headAt head) (linksAt links) (Call.Advance n) output (λ (e : x .answer .reply ≡ Done). bad (ap numberOf e)) in
       let not : eqb (numberOf (x .answer .reply)) 0 ≡ false = ne-eqb (numberOf (x .answer .reply)) 0 bad in (
         ap (λ (l : AdvanceLeft). l .call .head) is ∙ rw not,
         ap (λ (l : AdvanceLeft). l .call .links) is ∙ rw not,

@@ -26,7 +26,7 @@ use Rattle.face_head.specs.Head.{headWords, headIn}
 use Rattle.face_head.specs.Laws.{links-few, length-links, length-table, told-few}
 use Rattle.face_head.specs.Table.{tableWords, linksOf, linksIn, linksAt}
 use Rattle.face_head.specs.Told.{toldWords}
-use Rattle.head_judging.specs.declared.Request.{Request}
+use Rattle.head_judging.specs.declared.Call.{Call}
 use Rattle.lent.specs.Folds.{places}
 use Rattle.head_links.specs.Link.{idle}
 use Rattle.head_links.specs.declared.Link.{Link}
@@ -83,7 +83,7 @@ fresh-length a xs = fresh-by (isDone (madeOf a (length xs) .reply)) xs
 not-done : (x : Reply) → isDone x ≡ false → x ≢ Done
 not-done x e d = eqb-false (numberOf x) 0 e (ap numberOf d)
 
-module _ (r : Request) (head links output reply : List ℕ) (lent : isLent (length head) (length reply) ≡ true) where
+module _ (r : Call) (head links output reply : List ℕ) (lent : isLent (length head) (length reply) ≡ true) where
   abbrev done : Served
   done = serveOf (headAt head) (linksAt links) r output
 
@@ -155,7 +155,7 @@ unfolding soundTable
 many-unsound xs e = rw e
 
 -- the core too answers 13, and changes nothing
-pub unsound-unchanged : (h : Head) (xs : List Link) (r : Request) (os : List ℕ) → isFew (length xs) ≡ false
+pub unsound-unchanged : (h : Head) (xs : List Link) (r : Call) (os : List ℕ) → isFew (length xs) ≡ false
     → serveOf h xs r os ≡ served (telling Unsound h) xs os
 unsound-unchanged h xs r os e =
     let no : (soundOf h && soundTable xs) ≡ false = neither (soundOf h) (soundTable xs) (many-unsound xs e) in
@@ -187,7 +187,7 @@ module _ (links : List ℕ) where
   many : leb (length links / 5) 64 ≡ false → isFew (length allLinks) ≡ false
   many e = rw (length-links (length links / 5) links) (few-false (length links / 5) e)
 
-  module _ (r : Request) (head output reply : List ℕ) where
+  module _ (r : Call) (head output reply : List ℕ) where
     any-by : (t : Bool) → leb (length links / 5) 64 ≡ t
         → handed (serveOf (headAt head) (linksAt links) r output) head links reply ≡ handed (serveOf (headAt head) allLinks r output) head links reply
     unfolding handed keptHead keptLinks

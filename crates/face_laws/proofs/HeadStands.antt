@@ -19,7 +19,7 @@ use Rattle.head_state.specs.declared.Head.{Head}
 use Rattle.head_links.specs.Sound as link
 use Rattle.head_links.specs.declared.Link.{Link}
 use Rattle.head_survey.specs.Facts.{isFew, allSound, soundTable}
-use Rattle.head_judging.specs.declared.Request.{Request}
+use Rattle.head_judging.specs.declared.Call.{Call}
 use Rattle.frame_reader.specs.Decode.{readOf}
 use Rattle.head_calls.specs.Serve.{planOf, serveOf}
 use Rattle.head_plans.specs.declared.Plan.{Plan}
@@ -141,7 +141,7 @@ few-is w true e f = rw e
 few-is w false e f = absurd (true≢false (sym f ∙ rw e))
 
 -- THE CALLS
-module _ (r : Request) (h : Head) (xs : List Link) (os : List ℕ) where
+module _ (r : Call) (h : Head) (xs : List Link) (os : List ℕ) where
   sound-by : (p : Plan) → Outcome h xs r (length os) p → (soundOf h && soundTable xs) ≡ true → numberOf (p .reply) ≢ 13
   sound-by p (unsound s e) t = absurd (true≢false (sym t ∙ s))
   sound-by p (short s k e) t = rw e (omega arith)
@@ -216,7 +216,7 @@ module _ (head links : List ℕ) where
         table-words = ap (λ (k : ℕ). take (5 * k) links) size ∙ sym (words .0);
       }
 
-number-is : (r : Request) (head links output reply : List ℕ) → isLent (length head) (length reply) ≡ true
+number-is : (r : Call) (head links output reply : List ℕ) → isLent (length head) (length reply) ≡ true
     → servedOf r head links output reply .number ≡ numberOf (serveOf (headAt head) (linksAt links) r output .answer .reply)
 unfolding handed
 number-is r head links output reply e = ap (λ (l : Left). l .number) (is-handed r head links output reply e)

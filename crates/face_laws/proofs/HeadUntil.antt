@@ -18,7 +18,7 @@ use Rattle.head_state.specs.declared.Head.{Head}
 use Rattle.head_links.specs.declared.Link.{Link}
 use Rattle.head_survey.specs.Facts.{soundTable, quietAll}
 use Rattle.head_judging.specs.Judge.{hasRoom}
-use Rattle.head_judging.specs.declared.Request.{Request}
+use Rattle.head_judging.specs.declared.Call.{Call}
 use Rattle.head_plans.specs.Plan.{quiet}
 use Rattle.head_plans.specs.declared.Notice.{Notice}
 use Rattle.head_plans.specs.declared.Plan.{Plan}
@@ -86,7 +86,7 @@ module _ (head links output reply made : List ℕ) (c : Calm head links) (room :
         room = le-leb (60 * length xs) (length output) (rw n room);
       }
 
-  call-is : (k : ℕ) (x : Served) → serveOf h xs (Request.Advance k) output ≡ x
+  call-is : (k : ℕ) (x : Served) → serveOf h xs (Call.Advance k) output ≡ x
       → advanceCall k head links output reply made ≡ advanceLeft (handed x head links reply) (laid (x .answer .made ∷ []) made)
   call-is k x e = as-handed k head links output reply made (enough head reply (c .long) a) (le-leb 1 (length made) d) x e
 
@@ -122,13 +122,13 @@ module _ (head links output reply made : List ℕ) (c : Calm head links) (room :
 
     last-done : again t .answer .reply ≡ Done
     last-done =
-        call-reply (t .answer .next) (t .table) Request.Tick (t .octets)
+        call-reply (t .answer .next) (t .table) Call.Tick (t .octets)
         ∙ rw (last-ready .sound .head, last-ready .sound .table, last-ready .room)
 
     -- a tick gives no notice
     last-notice : again t .answer .notice ≡ quiet
     unfolding serveOf doneOf
-    last-notice = ap (λ (p : Plan). p .notice) (call-accepted (t .answer .next) (t .table) Request.Tick (t .octets) last-done .plan)
+    last-notice = ap (λ (p : Plan). p .notice) (call-accepted (t .answer .next) (t .table) Call.Tick (t .octets) last-done .plan)
 
     some-frame : 1 ≤ again t .answer .frames
     unfolding isSilent
@@ -145,7 +145,7 @@ module _ (head links output reply made : List ℕ) (c : Calm head links) (room :
     unfolding handed
     sends =
         let n : min u (u + 1 - 1) ≡ u = omega arith in
-        let y : serveOf h xs (Request.Advance (u + 1)) output ≡ withMade (u + 1) (again t) =
+        let y : serveOf h xs (Call.Advance (u + 1)) output ≡ withMade (u + 1) (again t) =
         rw n at (serve-advance h xs output ready (u + 1) (omega arith) (omega arith)) in
         let is = call-is (u + 1) _ y in
         record {
@@ -173,8 +173,8 @@ head-until-sound head links some =
     let room : 60 * linksIn (length links) ≤ length output = omega (arith, length-replicate {A = ℕ} (60 * linksIn (length links)) 0) in
     let p = passes head links output reply made c room (omega arith) (omega arith) 1 (omega arith) some in
     let is = as-request 1 head links output reply made (le-leb 1 (length made) (omega arith)) in
-    head-judged (Request.Advance 1) head links output reply (c .long) (omega arith) .1
-    (λ (z : servedOf (Request.Advance 1) head links output reply .number ≡ 13). omega (arith, p .done, ap (λ (l : Left). l .number) is, z))
+    head-judged (Call.Advance 1) head links output reply (c .long) (omega arith) .1
+    (λ (z : servedOf (Call.Advance 1) head links output reply .number ≡ 13). omega (arith, p .done, ap (λ (l : Left). l .number) is, z))
 
 pub head-until-ends : HeadUntilEnds
 unfolding HeadUntilEnds HeadRepacked

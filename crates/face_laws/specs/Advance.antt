@@ -8,7 +8,7 @@ use mathlib.Core.List.{List, [], _∷_}
 use mathlib.Core.Logic.{_≢_}
 use lib.ListN.{length}
 use Rattle.clock.specs.Numbers.{inReach}
-use Rattle.head_judging.specs.declared.Request.{Request}
+use Rattle.head_judging.specs.declared.Call.{Call}
 use Rattle.face_words.specs.Words.{laid}
 use Rattle.face_box_calls.specs.Calls as boxcall
 use Rattle.face_head_calls.specs.Calls as headcall
@@ -45,7 +45,7 @@ module _ (n : ℕ) (head links output reply made : List ℕ) where
     -- without a word for the number made it is 100, and nothing is touched
     pub short : length made < 1 → headLeft ≡ headcall.advanceLeft (headcall.left 100 head links output reply) made
     -- with one it is a request as any other: so 100, 13 and 12 come as they do to a tick
-    pub request : 1 ≤ length made → headLeft .call ≡ headcall.servedOf (Request.Advance n) head links output reply
+    pub request : 1 ≤ length made → headLeft .call ≡ headcall.servedOf (Call.Advance n) head links output reply
     -- then 9 to a number that isn't 1 to 65,536
     pub beyond : 1 ≤ length made → 5 ≤ length head → 5 ≤ length reply → stands.Stand head links → 60 * linksIn (length links) ≤ length output
         → inReach n ≡ false → headLeft .call .number ≡ 9

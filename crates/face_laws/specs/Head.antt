@@ -16,7 +16,7 @@ use Rattle.head_state.specs.declared.Window.{Window}
 use Rattle.head_state.specs.declared.Window.the-variants.{Idle, Before, Inside}
 use Rattle.head_links.specs.declared.Link.{Link}
 use Rattle.head_survey.specs.Facts.{isFew, soundTable}
-use Rattle.head_judging.specs.declared.Request.{Request}
+use Rattle.head_judging.specs.declared.Call.{Call}
 use Rattle.frame_reader.specs.Decode.{readOf}
 use Rattle.face_words.specs.Words.{laid}
 use Rattle.face_head.specs.Head.{headWords}
@@ -58,7 +58,7 @@ pub record Stand (head links : List ℕ) : Type 0 where
 -- a request that lends enough is answered otherwise than 13 just where they stand
 unfoldable pub HeadJudged : Type 0
 HeadJudged =
-    (r : Request) (head links output reply : List ℕ) → 5 ≤ length head → 5 ≤ length reply
+    (r : Call) (head links output reply : List ℕ) → 5 ≤ length head → 5 ≤ length reply
     → (Stand head links → servedOf r head links output reply .number ≢ 13)
     × (servedOf r head links output reply .number ≢ 13 → Stand head links)
 
@@ -68,7 +68,7 @@ HeadReads =
     (link : ℕ) (os head links output reply : List ℕ) → 5 ≤ length head → 5 ≤ length reply
     → (numberOf (readOf os .reply) ≢ 0 → heardOf link os head links output reply .number ≡ numberOf (readOf os .reply))
     × (numberOf (readOf os .reply) ≡ 0
-    → heardOf link os head links output reply ≡ servedOf (Request.Hear link (readOf os .message)) head links output reply)
+    → heardOf link os head links output reply ≡ servedOf (Call.Hear link (readOf os .message)) head links output reply)
 
 -- where they stand, that head and that table are what a call unpacks, and packing them gives the very words
 pub record Repacked (head links : List ℕ) (s : Stand head links) : Type 0 where

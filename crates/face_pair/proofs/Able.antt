@@ -20,7 +20,7 @@ use Rattle.box_laws.specs.Calls as calls
 use Rattle.lent.specs.Folds.{places}
 use Rattle.head_links.specs.Link.{idle}
 use Rattle.head_links.specs.declared.Link.{Link}
-use Rattle.head_judging.specs.declared.Request.{Request}
+use Rattle.head_judging.specs.declared.Call.{Call}
 use Rattle.head_calls.specs.Fresh.{Freshly, freshOf}
 use Rattle.head_laws.specs.Events.{table-parts}
 use Rattle.head_laws.specs.Runs.{run-sound}
@@ -92,7 +92,7 @@ module _ (A : Address) where
         rw (unread-none os h u) (stays 1 (boxes.unread-spares A block random starts.lent os h g u enough)))
         (decided (eqb (numberOf (readOf os .reply)) 0))
 
-    box-calls : (c : box-end.Request) → (d : box.Asked A) × Unit {0} × Comes (BoxFace A) BGood (box.asked A block d) (BoxEnd A .call b c)
+    box-calls : (c : box-end.Call) → (d : box.Asked A) × Unit {0} × Comes (BoxFace A) BGood (box.asked A block d) (BoxEnd A .call b c)
     box-calls box-end.register =
         (box.register starts.lent, tt, comes (boxes.lent-as A calls.register block starts.lent tt g enough))
     box-calls box-end.deregister =
@@ -222,6 +222,6 @@ module _ (A : Address) where
         calls = head-calls;
         hears = head-hears;
         ticks = λ w g out z.
-            let a = heads.lent-as A Request.Tick w (lends out) g (room w g) in
+            let a = heads.lent-as A Call.Tick w (lends out) g (room w g) in
             (lends out, a .reply ∙ z, comes a);
       }

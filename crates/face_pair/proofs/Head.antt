@@ -21,7 +21,7 @@ use Rattle.frame_reader.specs.Decode.{readOf}
 use Rattle.head_state.specs.declared.Head.{Head as Core}
 use Rattle.head_links.specs.declared.Link.{Link}
 use Rattle.head_survey.specs.Facts.{isFew}
-use Rattle.head_judging.specs.declared.Request.{Request}
+use Rattle.head_judging.specs.declared.Call.{Call}
 use Rattle.head_calls.specs.Fresh.{Freshly, isDone, freshOf}
 use Rattle.head_calls.specs.Serve.{Served, serveOf}
 use Rattle.head_laws.specs.Events.{table-parts}
@@ -155,7 +155,7 @@ five-told : (a b : ℕ) → isLent a b ≡ true → 5 ≤ b
 unfolding isLent
 five-told a b e = leb-true 5 b (and-eq-true-iff (leb 5 a) (leb 5 b) .0 e .1)
 
-module _ (r : Request) (w : Words) (l : Lent) where
+module _ (r : Call) (w : Words) (l : Lent) where
   abbrev pub lent : Bool
   lent = isLent (length (w .head)) (length (l .reply))
 
@@ -226,12 +226,12 @@ module _ (r : Request) (w : Words) (l : Lent) where
 
 -- what a call does, enough lent or not
 module _ (A : Address) where
-  pub lent-as : (r : Request) (w : Words) (l : Lent) → Good w → lent r w l ≡ true
+  pub lent-as : (r : Call) (w : Words) (l : Lent) → Good w → lent r w l ≡ true
       → As (HeadFace A) Good (answered (served w r l)) (end.asked (stateAt w) r (l .output))
   lent-as r w l g e =
       record { good = next-good r w l e g; reply = number-is r w l e; next = next-is r w l e g; sent = sent-is r w l e }
 
-  pub short-spares : (r : Request) (w : Words) (l : Lent) → Good w → lent r w l ≡ false → Untouched (HeadFace A) Good w (answered (served w r l))
+  pub short-spares : (r : Call) (w : Words) (l : Lent) → Good w → lent r w l ≡ false → Untouched (HeadFace A) Good w (answered (served w r l))
   short-spares r w l g e =
       unchanged (HeadFace A) Good g (ap (λ (y : Left). answered y .next) (short r w l e)) (ap sentIn (short r w l e))
 
@@ -250,7 +250,7 @@ module _ (A : Address) where
     unfolding messageIn
     carries u = rw (h, u)
 
-    as-heard : reads ≡ true → is ≡ served w (Request.Hear link read) l
+    as-heard : reads ≡ true → is ≡ served w (Call.Hear link read) l
     unfolding heardOf
     as-heard u = rw u
 
@@ -277,13 +277,13 @@ module _ (A : Address) where
     abbrev Out : Type 0
     Out = As (HeadFace A) Good (answered is) (end.heard (stateAt w) link (l .output) (messageIn os)) ⊎ Untouched (HeadFace A) Good w (answered is)
 
-    pub read-as : Good w → reads ≡ true → lent (Request.Hear link read) w l ≡ true
+    pub read-as : Good w → reads ≡ true → lent (Call.Hear link read) w l ≡ true
         → As (HeadFace A) Good (answered is) (end.heard (stateAt w) link (l .output) (messageIn os))
-    read-as g u e = rw (as-heard u, carries u) (lent-as (Request.Hear link read) w l g e)
+    read-as g u e = rw (as-heard u, carries u) (lent-as (Call.Hear link read) w l g e)
 
     read-out : Good w → reads ≡ true → Out
     read-out g u =
-        let r = Request.Hear link read in
+        let r = Call.Hear link read in
         ⊎-elim
         (λ (e : lent r w l ≡ true). inl (read-as g u e))
         (λ (e : lent r w l ≡ false). inr (rw (as-heard u) (short-spares r w l g e)))
@@ -410,11 +410,11 @@ module _ (A : Address) where
       → (out : List ℕ) × As (HeadFace A) Good (HeadFace A .tick w l) (HeadEnd A .tick (stateAt w) out)
   tick-faithful w l g z =
       ⊎-elim
-      (λ (e : lent Request.Tick w l ≡ true). (l .output, lent-as Request.Tick w l g e))
-      (λ (e : lent Request.Tick w l ≡ false).
-      let far : served w Request.Tick l .number ≡ 100 = ap (λ (y : Left). y .number) (short Request.Tick w l e) in
+      (λ (e : lent Call.Tick w l ≡ true). (l .output, lent-as Call.Tick w l g e))
+      (λ (e : lent Call.Tick w l ≡ false).
+      let far : served w Call.Tick l .number ≡ 100 = ap (λ (y : Left). y .number) (short Call.Tick w l e) in
       absurd (omega arith))
-      (decided (lent Request.Tick w l))
+      (decided (lent Call.Tick w l))
 
   pub head-faithful : Faithful (HeadFace A) Good upRestarts
   head-faithful = record { fresh = fresh-faithful; of-call = call-faithful; of-hear = hear-faithful; of-tick = tick-faithful }

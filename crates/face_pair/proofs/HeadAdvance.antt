@@ -22,7 +22,7 @@ use Rattle.head_links.specs.Pass.{passedOf}
 use Rattle.head_links.specs.declared.Link.{Link}
 use Rattle.head_survey.specs.Facts.{linkFrom, quietAll}
 use Rattle.head_judging.specs.Judge.{hasRoom}
-use Rattle.head_judging.specs.declared.Request.{Request}
+use Rattle.head_judging.specs.declared.Call.{Call}
 use Rattle.head_calls.specs.Fresh.{isDone}
 use Rattle.head_calls.specs.Serve.{Served, serveOf}
 use Rattle.head_laws.specs.Advance.{Ready, leapOf, quietAfter, head-jumps, serve-advance}
@@ -88,7 +88,7 @@ shownIn w t =
     }
 
 -- is what a request leaves that is done
-module _ (r : Request) (w : Words) (l : Lent) (e : isLent (length (w .head)) (length (l .reply)) ≡ true) where
+module _ (r : Call) (w : Words) (l : Lent) (e : isLent (length (w .head)) (length (l .reply)) ≡ true) where
   abbrev x : Served
   x = serveOf (headAt (w .head)) (linksAt (w .links)) r (l .output)
 
@@ -166,19 +166,19 @@ module _ (A : Address) (w : Words) (g : Good w) (l : Lent) where
           let y = again t in
           let u : isLent (length (at .head)) (length (l .reply)) ≡ true =
           ap (λ (k : ℕ). isLent k (length (l .reply))) (length-laid (headWords (t .answer .next)) (w .head)) ∙ e in
-          let same : serveOf (headAt (at .head)) (linksAt (at .links)) Request.Tick (l .output) ≡ y =
-          ap (λ (z : HeadState). serveOf (z .head) (z .table) Request.Tick (l .output)) at-is
-          ∙ ap (λ (o : List ℕ). serveOf (t .answer .next) (t .table) Request.Tick o) (sym (f .octets)) in
-          let d : isDone (serveOf (headAt (at .head)) (linksAt (at .links)) Request.Tick (l .output) .answer .reply) ≡ true =
+          let same : serveOf (headAt (at .head)) (linksAt (at .links)) Call.Tick (l .output) ≡ y =
+          ap (λ (z : HeadState). serveOf (z .head) (z .table) Call.Tick (l .output)) at-is
+          ∙ ap (λ (o : List ℕ). serveOf (t .answer .next) (t .table) Call.Tick o) (sym (f .octets)) in
+          let d : isDone (serveOf (headAt (at .head)) (linksAt (at .links)) Call.Tick (l .output) .answer .reply) ≡ true =
           ap (λ (z : Served). isDone (z .answer .reply)) same ∙ ap isDone next-done in
           let a = length-table (t .table) ∙ ap (λ (k : ℕ). 5 * k) as-many in
-          let b = length-table (y .table) ∙ ap (λ (k : ℕ). 5 * k) (call-length (t .answer .next) (t .table) Request.Tick (t .octets)) ∙ sym (length-table (t .table)) in
+          let b = length-table (y .table) ∙ ap (λ (k : ℕ). 5 * k) (call-length (t .answer .next) (t .table) Call.Tick (t .octets)) ∙ sym (length-table (t .table)) in
           let h : laid (headWords (y .answer .next)) (at .head) ≡ laid (headWords (y .answer .next)) (w .head) =
           laid-twice (headWords (y .answer .next)) (headWords (t .answer .next)) (w .head) (head-size (y .answer .next) ∙ sym (head-size (t .answer .next)))
           (omega (arith, head-size (t .answer .next), g .room)) in
           let k : laid (tableWords (y .table)) (at .links) ≡ laid (tableWords (y .table)) (w .links) =
           laid-twice (tableWords (y .table)) (tableWords (t .table)) (w .links) b (omega (arith, a, links-few (length (w .links)) .1)) in
-          laid-is Request.Tick at l u d ∙ ap (shownIn at) same ∙ rw (h, k)
+          laid-is Call.Tick at l u d ∙ ap (shownIn at) same ∙ rw (h, k)
 
     -- quiet ticks
     leap-is : (j : ℕ) → leapOf j s ≡ stillAt (leapOf j s .answer .next) (passedAll xs j) (l .output)
@@ -198,7 +198,7 @@ module _ (A : Address) (w : Words) (g : Good w) (l : Lent) where
     leap-run zero h = g .reached
     leap-run (suc j) h =
         subst (λ (t : Served). Run (t .answer .next) (t .table)) (leap-on j (omega arith))
-        (calls (leapOf j s .answer .next) (leapOf j s .table) (leap-run j (omega arith)) Request.Tick (leapOf j s .octets))
+        (calls (leapOf j s .answer .next) (leapOf j s .table) (leap-run j (omega arith)) Call.Tick (leapOf j s .octets))
 
     leap-fine : (j : ℕ) → j ≤ quietAll xs → Fine (leapOf j s)
     leap-fine j h =
@@ -259,15 +259,15 @@ module _ (A : Address) (w : Words) (g : Good w) (l : Lent) where
       k = min (quietAll xs) (n - 1)
 
       abbrev y : Served
-      y = serveOf (headAt (w .head)) xs (Request.Advance n) (l .output)
+      y = serveOf (headAt (w .head)) xs (Call.Advance n) (l .output)
 
       y-is : y ≡ advanced.withMade (k + 1) (again (leapOf k s))
       y-is = serve-advance (headAt (w .head)) xs (l .output) ready n lo (reach-parts n i .1)
 
-      call-is : headAdvance w asked ≡ advanceLeft (served w (Request.Advance n) l) (laid (y .answer .made ∷ []) made)
+      call-is : headAdvance w asked ≡ advanceLeft (served w (Call.Advance n) l) (laid (y .answer .made ∷ []) made)
       call-is =
           as-handed n (w .head) (w .links) (l .output) (l .reply) made e h y refl
-          ∙ ap (λ (z : Left). advanceLeft z (laid (y .answer .made ∷ []) made)) (sym (is-handed (Request.Advance n) (w .head) (w .links) (l .output) (l .reply) e))
+          ∙ ap (λ (z : Left). advanceLeft z (laid (y .answer .made ∷ []) made)) (sym (is-handed (Call.Advance n) (w .head) (w .links) (l .output) (l .reply) e))
 
       made-is : HeadAdvances A .made w asked ≡ k + 1
       made-is =
@@ -281,7 +281,7 @@ module _ (A : Address) (w : Words) (g : Good w) (l : Lent) where
       shown-is : HeadAdvances A .advance w asked ≡ shown (again (leapOf k s))
       shown-is =
           let d : isDone (y .answer .reply) ≡ true = ap (λ (z : Served). isDone (z .answer .reply)) y-is ∙ ap isDone last-done in
-          ap (λ (z : AdvanceLeft). answered (z .call)) call-is ∙ laid-is (Request.Advance n) w l e d ∙ ap shown y-is
+          ap (λ (z : AdvanceLeft). answered (z .call)) call-is ∙ laid-is (Call.Advance n) w l e d ∙ ap shown y-is
 
       pub advance-made : (HeadAdvances A .advance w asked .reply ≡ 0) × (1 ≤ HeadAdvances A .made w asked) × (HeadAdvances A .made w asked ≤ n)
       advance-made = (
@@ -316,22 +316,22 @@ module _ (A : Address) (w : Words) (g : Good w) (q : HeadAsked) where
   unworded : worded ≡ false → headAdvance w q .call .number ≡ 100
   unworded h = ap (λ (y : AdvanceLeft). y .call .number) (as-short (q .ticks) (w .head) (w .links) (q .lent .output) (q .lent .reply) (q .made) h)
 
-  request : worded ≡ true → headAdvance w q .call ≡ served w (Request.Advance (q .ticks)) (q .lent)
+  request : worded ≡ true → headAdvance w q .call ≡ served w (Call.Advance (q .ticks)) (q .lent)
   request h = as-request (q .ticks) (w .head) (w .links) (q .lent .output) (q .lent .reply) (q .made) h
 
   unlent : worded ≡ true → enough ≡ false → headAdvance w q .call .number ≡ 100
-  unlent h e = ap (λ (y : Left). y .number) (request h ∙ short (Request.Advance (q .ticks)) w (q .lent) e)
+  unlent h e = ap (λ (y : Left). y .number) (request h ∙ short (Call.Advance (q .ticks)) w (q .lent) e)
 
   number-of : worded ≡ true → enough ≡ true
-      → headAdvance w q .call .number ≡ numberOf (serveOf (headAt (w .head)) table (Request.Advance (q .ticks)) (q .lent .output) .answer .reply)
-  number-of h e = ap (λ (y : Left). y .number) (request h) ∙ number-is (Request.Advance (q .ticks)) w (q .lent) e
+      → headAdvance w q .call .number ≡ numberOf (serveOf (headAt (w .head)) table (Call.Advance (q .ticks)) (q .lent .output) .answer .reply)
+  number-of h e = ap (λ (y : Left). y .number) (request h) ∙ number-is (Call.Advance (q .ticks)) w (q .lent) e
 
   pub head-never : headAdvance w q .call .number ≢ 13
   head-never z =
       ⊎-elim
       (λ (h : worded ≡ true).
       ⊎-elim
-      (λ (e : enough ≡ true). run-never-unsound (g .reached) (Request.Advance (q .ticks)) (q .lent .output) (sym (number-of h e) ∙ z))
+      (λ (e : enough ≡ true). run-never-unsound (g .reached) (Call.Advance (q .ticks)) (q .lent .output) (sym (number-of h e) ∙ z))
       (λ (e : enough ≡ false). omega (arith, unlent h e, z))
       (decided enough))
       (λ (h : worded ≡ false). omega (arith, unworded h, z))

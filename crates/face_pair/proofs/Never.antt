@@ -16,7 +16,7 @@ use Rattle.frame.specs.declared.Address.{Address}
 use Rattle.frame.specs.declared.Reading.{Reading}
 use Rattle.frame_range.specs.Fits.{isIndividual}
 use Rattle.frame_reader.specs.Decode.{readControl, readOf}
-use Rattle.head_judging.specs.declared.Request.{Request}
+use Rattle.head_judging.specs.declared.Call.{Call as HeadCall}
 use Rattle.head_calls.specs.Fresh.{freshOf}
 use Rattle.box_calls.specs.Answer.{accepted}
 use Rattle.box_calls.specs.declared.Answer.{Answer}
@@ -114,7 +114,7 @@ module _ (A : Address) where
 
 -- the head
 module _ (A : Address) (w : head.Words) (g : heads.Good w) where
-  served-never : (r : Request) (l : head.Lent) → head.served w r l .number ≢ 13
+  served-never : (r : HeadCall) (l : head.Lent) → head.served w r l .number ≢ 13
   served-never r l =
       ⊎-elim
       (λ (e : heads.lent r w l ≡ true). rw (heads.number-is r w l e) (run-never-unsound (g .reached) r (l .output)))
@@ -125,7 +125,7 @@ module _ (A : Address) (w : head.Words) (g : heads.Good w) where
   unfolding hc.heardOf hc.refusedOf
   octets-never link os l =
       either (λ (y : hc.Left). y .number ≢ 13) (eqb (numberOf (readOf os .reply)) 0) _ _
-      (λ _. served-never (Request.Hear link (readOf os .message)) l)
+      (λ _. served-never (HeadCall.Hear link (readOf os .message)) l)
       (λ _.
       either (λ (t : hc.Told). t .number ≢ 13) (hc.isLent (length (w .head)) (length (l .reply))) _ _
       (λ _. read-never os)
@@ -166,7 +166,7 @@ never-unsound A w block g k =
     record {
       head-asks = head-asks A w g;
       head-hears = head-hears A w g;
-      head-ticks = served-never A w g Request.Tick;
+      head-ticks = served-never A w g HeadCall.Tick;
       box-asks = box-asks A block k;
       box-hears = box-hears A block k;
       box-ticks = box-ticks A block k;

@@ -12,7 +12,7 @@ use Rattle.laws.specs.Cases.{either, decided}
 use Rattle.frame.specs.Card.{numberOf}
 use Rattle.frame.specs.declared.Address.{Address}
 use Rattle.frame.specs.declared.Reply.the-variants.{Done}
-use Rattle.head_judging.specs.declared.Request.{Request}
+use Rattle.head_judging.specs.declared.Call.{Call}
 use Rattle.frame_reader.specs.Decode.{readOf}
 use Rattle.head_calls.specs.Fresh.{isDone}
 use Rattle.head_calls.specs.Serve.{Served, serveOf}
@@ -43,7 +43,7 @@ box-refusals f block frames reply n =
     (decided (lefts.lent f block l))
 
 module _ (head links output reply : List ℕ) where
-  module _ (r : Request) where
+  module _ (r : Call) where
     abbrev x : Served
     x = serveOf (headAt head) (linksAt links) r output
 
@@ -79,7 +79,7 @@ module _ (head links output reply : List ℕ) where
   unfolding heardOf
   heard-unchanged link os =
       either (λ (y : Left). y .number ≢ 0 → Unchanged y head links output) (eqb (numberOf (readOf os .reply)) 0) _ _
-      (λ _. request-unchanged (Request.Hear link (readOf os .message)))
+      (λ _. request-unchanged (Call.Hear link (readOf os .message)))
       (λ _ n. (refl, refl, refl))
 
 pub head-refusals : HeadRefusals
@@ -107,7 +107,7 @@ head-advance-refused n head links output reply made z =
     (λ (e : leb 1 (length made) ≡ true).
     let is = head-calls.as-request n head links output reply made e in
     subst (λ (y : Left). Unchanged y head links output) (sym is)
-    (request-unchanged head links output reply (Request.Advance n) (λ k. z (ap (λ (y : Left). y .number) is ∙ k))))
+    (request-unchanged head links output reply (Call.Advance n) (λ k. z (ap (λ (y : Left). y .number) is ∙ k))))
     (λ (e : leb 1 (length made) ≡ false).
     subst (λ (y : AdvanceLeft). Unchanged (y .call) head links output) (sym (head-calls.as-short n head links output reply made e)) (refl, refl, refl))
     (decided (leb 1 (length made)))
@@ -125,7 +125,7 @@ module _ (head links output reply : List ℕ) (h : length head < 5) where
   unfolding isLent
   no-room = rw (lt-leb 5 (length head) h)
 
-  short-served : (r : Request) → servedOf r head links output reply ≡ left 100 head links output reply
+  short-served : (r : Call) → servedOf r head links output reply ≡ left 100 head links output reply
   unfolding servedOf
   short-served r = rw no-room
 
@@ -133,7 +133,7 @@ module _ (head links output reply : List ℕ) (h : length head < 5) where
   unfolding heardOf refusedOf
   short-heard link os =
       either (λ (y : Left). y ≡ left 100 head links output reply) (eqb (numberOf (readOf os .reply)) 0) _ _
-      (λ _. short-served (Request.Hear link (readOf os .message)))
+      (λ _. short-served (Call.Hear link (readOf os .message)))
       (λ _. rw no-room)
 
   short-begun : (a : Address) → begunOf a head links reply ≡ begunLeft 100 head links reply

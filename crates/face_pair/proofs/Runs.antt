@@ -27,7 +27,7 @@ use Rattle.box_laws.specs.Calls as box-calls
 use Rattle.box_laws.specs.Calls.{Call, answer}
 use Rattle.box_laws.specs.Frames.{CallTyped}
 use Rattle.box_laws.specs.Runs as core
-use Rattle.head_judging.specs.declared.Request.{Request}
+use Rattle.head_judging.specs.declared.Call.{Call as HeadCall}
 use Rattle.head_laws.specs.Fresh.{fresh-done}
 use Rattle.head_calls.specs.Fresh.{Freshly}
 use Rattle.pair_wire.specs.Carried.{areOctets, messageIn}
@@ -293,7 +293,7 @@ module _ (w : head.Words) (link : ℕ) (os : List ℕ) (l : head.Lent) where
   abbrev hearing : hc.Left
   hearing = hc.heardOf link os (w .head) (w .links) (l .output) (l .reply)
 
-  octets-heard : numberOf (readOf os .reply) ≡ 0 → hearing ≡ head.served w (Request.Hear link (readOf os .message)) l
+  octets-heard : numberOf (readOf os .reply) ≡ 0 → hearing ≡ head.served w (HeadCall.Hear link (readOf os .message)) l
   unfolding hc.heardOf
   octets-heard z = rw (eq-eqb (numberOf (readOf os .reply)) 0 z)
 

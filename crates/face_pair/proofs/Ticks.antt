@@ -10,7 +10,7 @@ use lib.ListN.{length}
 use Rattle.clock.specs.Numbers.{watchdog, wait}
 use Rattle.frame.specs.Card.{numberOf}
 use Rattle.frame.specs.declared.Address.{Address}
-use Rattle.head_judging.specs.declared.Request.{Request}
+use Rattle.head_judging.specs.declared.Call.{Call}
 use Rattle.head_laws.specs.Runs.{run-tick}
 use Rattle.pair_wire.specs.Restarts.{downRestarts, upRestarts}
 use Rattle.pair_demand.specs.Run as run
@@ -79,7 +79,7 @@ module _ (A : Address) (D : ℕ) where
       let n : length (linksAt (w .links)) ≡ linksIn (length (w .links)) = length-links (linksIn (length (w .links))) (w .links) in
       let enough : leb (60 * length (linksAt (w .links))) (length (l .output)) ≡ true =
       le-leb (60 * length (linksAt (w .links))) (length (l .output)) (rw n room) in
-      heads.number-is Request.Tick w l (lent-of (length (w .head)) (length (l .reply)) (g .room) k)
+      heads.number-is Call.Tick w l (lent-of (length (w .head)) (length (l .reply)) (g .room) k)
       ∙ ap numberOf (run-tick (g .reached) (l .output))
       ∙ rw enough
 

@@ -10,7 +10,7 @@ use lib.Dec.{eqb}
 use lib.ListN.{length, take, getD}
 use Rattle.frame.specs.declared.Address.{Address}
 use Rattle.frame_range.specs.Fits.{isIndividual}
-use Rattle.head_judging.specs.declared.Request.{Request}
+use Rattle.head_judging.specs.declared.Call.{Call}
 use Rattle.head_laws.specs.Sends.{RequestTyped}
 use Rattle.head_laws.specs.Touches.{NotTick}
 use Rattle.pair_wire.specs.Carried.{areOctets, messageIn}
@@ -67,13 +67,13 @@ Fresh w =
 -- `again`: the memory was lost, and the head was made fresh, there or elsewhere, with as many links as it likes. `moves`: from then on the calls
 -- lend the words of the head and of its links with something else behind each, or with nothing
 pub data Asked : Type 0 where
-  asks : Request → Lent → Asked
+  asks : Call → Lent → Asked
   hears : ℕ → List ℕ → Lent → Asked
   fresh : Address → List ℕ → Asked
   again : (w : Words) → Fresh w → Asked
   moves : List ℕ → List ℕ → Asked
 
-abbrev pub served : Words → Request → Lent → Left
+abbrev pub served : Words → Call → Lent → Left
 served w r l = servedOf r (w .head) (w .links) (l .output) (l .reply)
 
 -- what isn't octets is in no slice of them
@@ -115,7 +115,7 @@ module _ (A : Address) where
         Fair = Fair;
         call = asked;
         hear = λ w v os. cond (areOctets os) (heard w (v .link) (stamped (v .stamp) os) (v .lent)) (record { reply = 1; next = w; sent = [] });
-        tick = λ w l. answered (served w Request.Tick l);
+        tick = λ w l. answered (served w Call.Tick l);
         Held = λ w n. linkWith w n (λ address state. (state ≢ 0) × (address ≡ A .0));
         Registered = λ w n. linkWith w n (λ address state. (state ≡ 2) × (address ≡ A .0));
         Waiting = λ w n. linkWith w n (λ address state. state ≡ 1);

@@ -10,7 +10,7 @@ use lib.ListN.{length}
 use Rattle.frame.specs.declared.Address.{Address}
 use Rattle.box_calls.specs.declared.Answer.{Answer}
 use Rattle.box_calls.specs.declared.FloorBox.{FloorBox}
-use Rattle.head_judging.specs.declared.Request.{Request}
+use Rattle.head_judging.specs.declared.Call.{Call}
 use Rattle.face_box_calls.specs.Calls as box
 use Rattle.face_box_calls.specs.Calls.{boxCall, freshCall}
 use Rattle.face_head_calls.specs.Calls.{Left, left, begunLeft, servedOf, advanceCall, heardOf, begunOf}
@@ -27,7 +27,7 @@ Unchanged l head links output = (l .head ≡ head) × (l .links ≡ links) × (l
 unfoldable pub HeadRefusals : Type 0
 HeadRefusals =
     (head links output reply : List ℕ)
-    → ((r : Request) → servedOf r head links output reply .number ≢ 0 → Unchanged (servedOf r head links output reply) head links output)
+    → ((r : Call) → servedOf r head links output reply .number ≢ 0 → Unchanged (servedOf r head links output reply) head links output)
     × ((link : ℕ) (os : List ℕ) → heardOf link os head links output reply .number ≢ 0
     → Unchanged (heardOf link os head links output reply) head links output)
 
@@ -49,6 +49,6 @@ BoxShort =
 unfoldable pub HeadShort : Type 0
 HeadShort =
     (head links output reply : List ℕ) → length head < 5
-    → ((r : Request) → servedOf r head links output reply ≡ left 100 head links output reply)
+    → ((r : Call) → servedOf r head links output reply ≡ left 100 head links output reply)
     × ((link : ℕ) (os : List ℕ) → heardOf link os head links output reply ≡ left 100 head links output reply)
     × ((a : Address) → begunOf a head links reply ≡ begunLeft 100 head links reply)

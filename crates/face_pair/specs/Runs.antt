@@ -16,7 +16,7 @@ use Rattle.box_calls.specs.declared.Answer.{Answer}
 use Rattle.box_calls.specs.declared.FloorBox.{FloorBox}
 use Rattle.box_laws.specs.Runs as core
 use Rattle.face_box.specs.Box.{boxWords}
-use Rattle.head_judging.specs.declared.Request.{Request}
+use Rattle.head_judging.specs.declared.Call.{Call}
 use Rattle.frame_reader.specs.Decode.{readOf}
 use Rattle.head_calls.specs.Serve.{serveOf}
 use Rattle.head_laws.specs.Runs as core-head
@@ -120,21 +120,21 @@ pub record HeadPromise (w : head.Words) : Type 0 where
   pub links-words : take (5 * linksIn (length (w .links))) (w .links) ≡ tableWords (linksAt (w .links))
   pub reached : core-head.Run (headAt (w .head)) (linksAt (w .links))
   -- a request that is lent enough is the core's: its number, the head and the table that are then in the words, the frames handed out
-  pub request : (r : Request) (l : head.Lent) → headcall.isLent (length (w .head)) (length (l .reply)) ≡ true
+  pub request : (r : Call) (l : head.Lent) → headcall.isLent (length (w .head)) (length (l .reply)) ≡ true
       → (head.served w r l .number ≡ numberOf (serveOf (headAt (w .head)) (linksAt (w .links)) r (l .output) .answer .reply))
       × (head.stateAt (head.answered (head.served w r l) .next) ≡ end.asked (head.stateAt w) r (l .output) .next)
       × (head.sentIn (head.served w r l) ≡ end.asked (head.stateAt w) r (l .output) .sent)
   -- one that is not is 100, and changes nothing
-  pub short : (r : Request) (l : head.Lent) → ¬ (headcall.isLent (length (w .head)) (length (l .reply)) ≡ true)
+  pub short : (r : Call) (l : head.Lent) → ¬ (headcall.isLent (length (w .head)) (length (l .reply)) ≡ true)
       → head.served w r l ≡ headcall.left 100 (w .head) (w .links) (l .output) (l .reply)
   -- octets that the reader takes are the request to hear their message, and others change nothing
   pub octets : (link : ℕ) (os : List ℕ) (l : head.Lent) → numberOf (readOf os .reply) ≡ 0
-      → headcall.heardOf link os (w .head) (w .links) (l .output) (l .reply) ≡ head.served w (Request.Hear link (readOf os .message)) l
+      → headcall.heardOf link os (w .head) (w .links) (l .output) (l .reply) ≡ head.served w (Call.Hear link (readOf os .message)) l
   pub noise : (link : ℕ) (os : List ℕ) (l : head.Lent) → numberOf (readOf os .reply) ≢ 0
       → head.answered (headcall.heardOf link os (w .head) (w .links) (l .output) (l .reply)) .next ≡ w
   pub never : (c : head.Asked) → head.asked w c .reply ≢ 13
   pub ticks : (l : head.Lent) → 5 ≤ length (l .reply) → 60 * linksIn (length (w .links)) ≤ length (l .output)
-      → head.served w Request.Tick l .number ≡ 0
+      → head.served w Call.Tick l .number ≡ 0
 
 unfoldable pub HeadRuns : Type 0
 HeadRuns = (w : head.Words) → HeadWordsLeft w → HeadPromise w

@@ -33,7 +33,7 @@ use Rattle.head_survey.specs.declared.Look.{Look}
 use Rattle.head_survey.specs.declared.Facts.{Facts}
 use Rattle.frame.specs.declared.Address.{Address}
 use Rattle.head_state.specs.declared.Head.{Head}
-use Rattle.head_judging.specs.declared.Request.{Request}
+use Rattle.head_judging.specs.declared.Call.{Call}
 use Rattle.head_plans.specs.declared.Plan.{Plan}
 use Rattle.head_calls.specs.declared.Answer.{Answer}
 use Rattle.lent.specs.Folds.{each}
@@ -47,7 +47,7 @@ use Rattle.lent.proofs.Lending.{at-list}
 use Rattle.head_links.proofs.Values.{Link-row, Sent-row, Sent-mach, Sent-tells}
 use Rattle.head_table.proofs.Values.{Event-row, Event-mach, Event-tells, Event-makes, Sender-row, Sender-mach, Sender-tells, Sender-makes}
 use Rattle.head_survey.proofs.Values.{Look-row, Look-mach, Look-tells, Look-makes, Facts-row, Facts-mach, Facts-tells, Facts-makes, Address-row, Address-mach, Address-makes}
-use Rattle.head_calls.proofs.Values.{Head-row, Head-mach, Head-makes, Request-row, Request-mach, Request-makes, Plan-row, Plan-mach, Plan-tells, Plan-makes, Answer-row, Answer-mach, Answer-tells, Answer-makes}
+use Rattle.head_calls.proofs.Values.{Head-row, Head-mach, Head-makes, Call-row, Call-mach, Call-makes, Plan-row, Plan-mach, Plan-tells, Plan-makes, Answer-row, Answer-mach, Answer-tells, Answer-makes}
 use Rattle.head_judging.proofs.look as looking
 use Rattle.head_survey.proofs.survey as survey
 use Rattle.head_judging.proofs.judge as judge
@@ -64,18 +64,18 @@ use Rattle.head_table.proofs.offer as offer
 abbrev pub Looking : {M : Type 1} (𝓤 : URA M) (H : Heap 𝓤) (A : Atoms 𝓤) (mem : Memory → SProp 𝓤) (run : Routine → Fun 𝓤) → Contract 𝓤
 Looking 𝓤 H A mem run = tripleOf 𝓤 H A looking.signature (looking.spec 𝓤 H A mem run)
 
-pub record LookingLeft (req : Request) (w : Val) (r : Look) : Type 0 where
+pub record LookingLeft (req : Call) (w : Val) (r : Look) : Type 0 where
   pub value : w ≡ Look-mach r
   pub is : Is Look-row r (w ∷ [])
   pub says : r ≡ lookOf req
 
-module _ {M : Type 1} (𝓤 : URA M) (H : Heap 𝓤) (A : Atoms 𝓤) (W : Given 𝓤 H A) (mem : Memory → SProp 𝓤) (run : Routine → Fun 𝓤) (req : Request) where
+module _ {M : Type 1} (𝓤 : URA M) (H : Heap 𝓤) (A : Atoms 𝓤) (W : Given 𝓤 H A) (mem : Memory → SProp 𝓤) (run : Routine → Fun 𝓤) (req : Call) where
   abbrev pub to-looking : Looking 𝓤 H A mem run .Ghost
-  to-looking = ((tt, tt, tt, (req, tt), (Request-mach req ∷ [], tt)), tt)
+  to-looking = ((tt, tt, tt, (req, tt), (Call-mach req ∷ [], tt)), tt)
 
-  pub goes-looking : Is Request-row req (Request-mach req ∷ []) → ent 𝓤 (emp 𝓤) (Looking 𝓤 H A mem run .pre to-looking)
+  pub goes-looking : Is Call-row req (Call-mach req ∷ []) → ent 𝓤 (emp 𝓤) (Looking 𝓤 H A mem run .pre to-looking)
   goes-looking g-req =
-      qed W [] ∵ nothing ! $ nothing ! $ owned ! Request-row (Is Request-row) (Request-makes 𝓤 H A) req _ g-req $ fjoin ! $ move ! (1 ∷ 0 ∷ []) $ join ! $ frame ! $ done !
+      qed W [] ∵ nothing ! $ nothing ! $ owned ! Call-row (Is Call-row) (Call-makes 𝓤 H A) req _ g-req $ fjoin ! $ move ! (1 ∷ 0 ∷ []) $ join ! $ frame ! $ done !
 
   abbrev pub Left-looking : Val → Item 𝓤
   Left-looking w = later (some (λ (r : Look). given (LookingLeft req w r) (‵ ftrue)))
@@ -120,18 +120,18 @@ module _ {M : Type 1} (𝓤 : URA M) (H : Heap 𝓤) (A : Atoms 𝓤) (W : Given
 abbrev pub Judge : {M : Type 1} (𝓤 : URA M) (H : Heap 𝓤) (A : Atoms 𝓤) (mem : Memory → SProp 𝓤) (run : Routine → Fun 𝓤) → Contract 𝓤
 Judge 𝓤 H A mem run = tripleOf 𝓤 H A judge.signature (judge.spec 𝓤 H A mem run)
 
-pub record JudgeLeft (h : Head) (f : Facts) (u : ℕ) (v : ℕ) (req : Request) (w : Val) (r : Plan) : Type 0 where
+pub record JudgeLeft (h : Head) (f : Facts) (u : ℕ) (v : ℕ) (req : Call) (w : Val) (r : Plan) : Type 0 where
   pub value : w ≡ Plan-mach r
   pub is : Is Plan-row r (w ∷ [])
   pub says : r ≡ judgeOf h f u v req
 
-module _ {M : Type 1} (𝓤 : URA M) (H : Heap 𝓤) (A : Atoms 𝓤) (W : Given 𝓤 H A) (mem : Memory → SProp 𝓤) (run : Routine → Fun 𝓤) (h : Head) (f : Facts) (u : ℕ) (v : ℕ) (req : Request) where
+module _ {M : Type 1} (𝓤 : URA M) (H : Heap 𝓤) (A : Atoms 𝓤) (W : Given 𝓤 H A) (mem : Memory → SProp 𝓤) (run : Routine → Fun 𝓤) (h : Head) (f : Facts) (u : ℕ) (v : ℕ) (req : Call) where
   abbrev pub to-judge : Judge 𝓤 H A mem run .Ghost
-  to-judge = ((tt, tt, tt, (h, (f, (u, (v, (req, tt))))), (Head-mach h ∷ [], (Facts-mach f ∷ [], (vint w64 u ∷ [], (vint w64 v ∷ [], (Request-mach req ∷ [], tt)))))), tt)
+  to-judge = ((tt, tt, tt, (h, (f, (u, (v, (req, tt))))), (Head-mach h ∷ [], (Facts-mach f ∷ [], (vint w64 u ∷ [], (vint w64 v ∷ [], (Call-mach req ∷ [], tt)))))), tt)
 
-  pub goes-judge : Is Head-row h (Head-mach h ∷ []) → Is Facts-row f (Facts-mach f ∷ []) → Is usize u (vint w64 u ∷ []) → Is usize v (vint w64 v ∷ []) → Is Request-row req (Request-mach req ∷ []) → ent 𝓤 (emp 𝓤) (Judge 𝓤 H A mem run .pre to-judge)
+  pub goes-judge : Is Head-row h (Head-mach h ∷ []) → Is Facts-row f (Facts-mach f ∷ []) → Is usize u (vint w64 u ∷ []) → Is usize v (vint w64 v ∷ []) → Is Call-row req (Call-mach req ∷ []) → ent 𝓤 (emp 𝓤) (Judge 𝓤 H A mem run .pre to-judge)
   goes-judge g-h g-f g-u g-v g-req =
-      qed W [] ∵ nothing ! $ nothing ! $ owned ! Request-row (Is Request-row) (Request-makes 𝓤 H A) req _ g-req $ fjoin ! $ owned ! usize (Is usize) (uint-makes 𝓤 H A W w64) v _ g-v $ fjoin ! $ owned ! usize (Is usize) (uint-makes 𝓤 H A W w64) u _ g-u $ fjoin ! $ owned ! Facts-row (Is Facts-row) (Facts-makes 𝓤 H A) f _ g-f $ fjoin ! $ owned ! Head-row (Is Head-row) (Head-makes 𝓤 H A) h _ g-h $ fjoin ! $ move ! (1 ∷ 0 ∷ []) $ join ! $ frame ! $ done !
+      qed W [] ∵ nothing ! $ nothing ! $ owned ! Call-row (Is Call-row) (Call-makes 𝓤 H A) req _ g-req $ fjoin ! $ owned ! usize (Is usize) (uint-makes 𝓤 H A W w64) v _ g-v $ fjoin ! $ owned ! usize (Is usize) (uint-makes 𝓤 H A W w64) u _ g-u $ fjoin ! $ owned ! Facts-row (Is Facts-row) (Facts-makes 𝓤 H A) f _ g-f $ fjoin ! $ owned ! Head-row (Is Head-row) (Head-makes 𝓤 H A) h _ g-h $ fjoin ! $ move ! (1 ∷ 0 ∷ []) $ join ! $ frame ! $ done !
 
   abbrev pub Left-judge : Val → Item 𝓤
   Left-judge w = later (some (λ (r : Plan). given (JudgeLeft h f u v req w r) (‵ ftrue)))

@@ -18,9 +18,9 @@ use Rattle.head_calls.proofs.Answer.Laws as T-Answer′
 use Rattle.head_state.specs.declared.Head.{Head}
 use Rattle.head_state.proofs.Head as T-Head
 use Rattle.head_state.proofs.Head.Laws as T-Head′
-use Rattle.head_judging.specs.declared.Request.{Request}
-use Rattle.head_judging.proofs.Request as T-Request
-use Rattle.head_judging.proofs.Request.Laws as T-Request′
+use Rattle.head_judging.specs.declared.Call.{Call}
+use Rattle.head_judging.proofs.Call as T-Call
+use Rattle.head_judging.proofs.Call.Laws as T-Call′
 use Rattle.head_plans.specs.declared.Plan.{Plan}
 use Rattle.head_plans.proofs.Plan as T-Plan
 use Rattle.head_plans.proofs.Plan.Laws as T-Plan′
@@ -63,24 +63,24 @@ Head-makes = SL.makes T-Head.the-type T-Head′.the-plain
 pub Head-typed : {M : Type 1} (𝓤 : URA M) (H : Heap 𝓤) (A : Atoms 𝓤) (W : Given 𝓤 H A) (x : Head) (v : Val) → Is Head-row x (v ∷ []) → T (hasTy T-Head′.mir v) × WT v
 Head-typed 𝓤 H A W x v is = SL.lawful T-Head.the-type T-Head′.the-laws 𝓤 H A W .typed x _ is .0
 
--- ---- Request
-abbrev pub Request-row : RattleType
-Request-row = T-Request.the-row
+-- ---- Call
+abbrev pub Call-row : RattleType
+Call-row = T-Call.the-row
 
-abbrev pub Request-mach : Request → Val
-Request-mach x = EL.val T-Request.the-type T-Request′.the-laws x
+abbrev pub Call-mach : Call → Val
+Call-mach x = EL.val T-Call.the-type T-Call′.the-laws x
 
-pub Request-tells : Tells Request-row (Is Request-row) (λ x. Request-mach x ∷ [])
-Request-tells = EL.tells T-Request.the-type T-Request′.the-laws
+pub Call-tells : Tells Call-row (Is Call-row) (λ x. Call-mach x ∷ [])
+Call-tells = EL.tells T-Call.the-type T-Call′.the-laws
 
-pub Request-copy : {M : Type 1} (𝓤 : URA M) (H : Heap 𝓤) (A : Atoms 𝓤) (W : Given 𝓤 H A) → Copy 𝓤 H A Request-row
-Request-copy = EL.copy T-Request.the-type T-Request′.the-copy
+pub Call-copy : {M : Type 1} (𝓤 : URA M) (H : Heap 𝓤) (A : Atoms 𝓤) (W : Given 𝓤 H A) → Copy 𝓤 H A Call-row
+Call-copy = EL.copy T-Call.the-type T-Call′.the-copy
 
-pub Request-makes : {M : Type 1} (𝓤 : URA M) (H : Heap 𝓤) (A : Atoms 𝓤) → Makes 𝓤 H A Request-row (Is Request-row)
-Request-makes = EL.makes T-Request.the-type T-Request′.the-plain
+pub Call-makes : {M : Type 1} (𝓤 : URA M) (H : Heap 𝓤) (A : Atoms 𝓤) → Makes 𝓤 H A Call-row (Is Call-row)
+Call-makes = EL.makes T-Call.the-type T-Call′.the-plain
 
-pub Request-typed : {M : Type 1} (𝓤 : URA M) (H : Heap 𝓤) (A : Atoms 𝓤) (W : Given 𝓤 H A) (x : Request) (v : Val) → Is Request-row x (v ∷ []) → T (hasTy T-Request′.mir v) × WT v
-Request-typed 𝓤 H A W x v is = EL.lawful T-Request.the-type T-Request′.the-laws 𝓤 H A W tt .typed x _ is .0
+pub Call-typed : {M : Type 1} (𝓤 : URA M) (H : Heap 𝓤) (A : Atoms 𝓤) (W : Given 𝓤 H A) (x : Call) (v : Val) → Is Call-row x (v ∷ []) → T (hasTy T-Call′.mir v) × WT v
+Call-typed 𝓤 H A W x v is = EL.lawful T-Call.the-type T-Call′.the-laws 𝓤 H A W tt .typed x _ is .0
 
 -- ---- Plan
 abbrev pub Plan-row : RattleType

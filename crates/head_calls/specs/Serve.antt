@@ -12,7 +12,7 @@ use Rattle.head_table.specs.Output.{Output, output, noteOf, noteLink}
 use Rattle.head_table.specs.declared.Sender.{Sender}
 use Rattle.head_judging.specs.Judge.{lookOf, judgeOf}
 use Rattle.head_plans.specs.declared.Plan.{Plan}
-use Rattle.head_judging.specs.declared.Request.{Request}
+use Rattle.head_judging.specs.declared.Call.{Call}
 use Rattle.head_calls.specs.declared.Answer.{Answer}
 
 -- the answer, and what then stands in the table and in the output
@@ -25,7 +25,7 @@ abbrev pub served : Answer → List Link → List ℕ → Served
 served a xs os = record { answer = a; table = xs; octets = os }
 
 -- what is decided before anything is changed
-unfoldable pub planOf : Head → List Link → Request → ℕ → Plan
+unfoldable pub planOf : Head → List Link → Call → ℕ → Plan
 planOf h xs r room = judgeOf h (factsOf xs (lookOf r)) (length xs) room r
 
 -- frames go from the head's own address with the head's count
@@ -42,5 +42,5 @@ answerOf p frames = record { reply = p .reply; next = p .head; frames = frames; 
 unfoldable pub doneOf : Plan → List Link → List ℕ → Served
 doneOf p xs os = served (answerOf p (sentOf p xs os .frames)) (drivenOf (p .event) xs) (sentOf p xs os .octets)
 
-unfoldable pub serveOf : Head → List Link → Request → List ℕ → Served
+unfoldable pub serveOf : Head → List Link → Call → List ℕ → Served
 serveOf h xs r os = doneOf (planOf h xs r (length os)) xs os

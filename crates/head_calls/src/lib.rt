@@ -4,7 +4,7 @@ ghost use Rattle.head_calls.specs.Fresh.{begunOf, isDone, clearing, fres
 ghost use Rattle.head_calls.specs.Serve.{senderOf, answerOf, served, serveOf};
 use frame::Address;
 use frame::Reply;
-use head_judging::Request;
+use head_judging::Call;
 use head_links::Link;
 use head_links::Sent;
 use head_plans::Notice;
@@ -60,11 +60,11 @@ fn answer_of(plan: Plan, frames: usize) -> Answer
 }
 
 // Every call of a head that stands: judge, then the head's own frame, then the links. A refusal goes the same way with nothing to do.
-pub fn serve(head: Head, links: &mut [Link], request: Request, out: &mut [u8]) -> Answer
-    ensures { λ r. ⌜ served r (now (links .exit)) (now (out .exit)) ≡ serveOf head (now (links .entry)) request (now (out .entry)) ⌝ }
+pub fn serve(head: Head, links: &mut [Link], call: Call, out: &mut [u8]) -> Answer
+    ensures { λ r. ⌜ served r (now (links .exit)) (now (out .exit)) ≡ serveOf head (now (links .entry)) call (now (out .entry)) ⌝ }
 {
-    let f = head_survey::survey(links, head_judging::look(request));
-    let p = head_judging::judge(head, f, links.len(), out.len(), request);
+    let f = head_survey::survey(links, head_judging::look(call));
+    let p = head_judging::judge(head, f, links.len(), out.len(), call);
     let n = head_table::note(out, 0, sender_of(p), lead_of(p));
     let m = head_table::drive(links, event_of(p), sender_of(p), out, n);
     answer_of(p, m)

@@ -16,22 +16,22 @@ use Rattle.head_requests.specs.Client.{openOf, admitOf, rejectOf, reregisterOf,
 use Rattle.head_hearing.specs.Hear.{hearOf}
 use Rattle.head_plans.specs.Plan.{refused, accepted, leaping}
 use Rattle.head_plans.specs.declared.Plan.{Plan}
-use Rattle.head_judging.specs.declared.Request.{Request}
+use Rattle.head_judging.specs.declared.Call.{Call}
 
 abbrev pub lookFor : ℕ → Look
 lookFor link = record { link = link; address = record { 0 = 0 } }
 
 -- what a request asks of the table: a link by its number, or who holds an address
-abbrev pub lookOf : Request → Look
-lookOf (Request.Open start length sync window) = lookFor 0
-lookOf (Request.Admit a pending sync) = record { link = 0; address = a }
-lookOf (Request.Reject a pending sync) = lookFor 0
-lookOf (Request.Reregister link sync) = lookFor link
-lookOf (Request.Deregister link) = lookFor link
-lookOf (Request.Gate link asked) = lookFor link
-lookOf (Request.Hear link m) = lookFor link
-lookOf Request.Tick = lookFor 0
-lookOf (Request.Advance n) = lookFor 0
+abbrev pub lookOf : Call → Look
+lookOf (Call.Open start length sync window) = lookFor 0
+lookOf (Call.Admit a pending sync) = record { link = 0; address = a }
+lookOf (Call.Reject a pending sync) = lookFor 0
+lookOf (Call.Reregister link sync) = lookFor link
+lookOf (Call.Deregister link) = lookFor link
+lookOf (Call.Gate link asked) = lookFor link
+lookOf (Call.Hear link m) = lookFor link
+lookOf Call.Tick = lookFor 0
+lookOf (Call.Advance n) = lookFor 0
 
 -- the ticks at which no link rings, and one more
 abbrev pub leapt : Head → ℕ → Plan
@@ -42,16 +42,16 @@ unfoldable pub advanceOf : Head → ℕ → ℕ → Plan
 advanceOf h quiet n = given (Grant unless inReach n ∷ []) (refused h) (leapt h (min quiet (n - 1)))
 
 -- tick: count, window, then links in order
-abbrev pub decideOf : Request → Head → Facts → Plan
-decideOf (Request.Open start length sync window) h f = openOf h start length sync window
-decideOf (Request.Admit a pending sync) h f = admitOf h f a pending sync
-decideOf (Request.Reject a pending sync) h f = rejectOf h a pending sync
-decideOf (Request.Reregister link sync) h f = reregisterOf h (f .link) link sync
-decideOf (Request.Deregister link) h f = deregisterOf h (f .link) link
-decideOf (Request.Gate link asked) h f = gateOf h (f .link) link asked
-decideOf (Request.Hear link m) h f = hearOf h (f .link) link m
-decideOf Request.Tick h f = accepted (tickOf h) Tick
-decideOf (Request.Advance n) h f = advanceOf h (f .quiet) n
+abbrev pub decideOf : Call → Head → Facts → Plan
+decideOf (Call.Open start length sync window) h f = openOf h start length sync window
+decideOf (Call.Admit a pending sync) h f = admitOf h f a pending sync
+decideOf (Call.Reject a pending sync) h f = rejectOf h a pending sync
+decideOf (Call.Reregister link sync) h f = reregisterOf h (f .link) link sync
+decideOf (Call.Deregister link) h f = deregisterOf h (f .link) link
+decideOf (Call.Gate link asked) h f = gateOf h (f .link) link asked
+decideOf (Call.Hear link m) h f = hearOf h (f .link) link m
+decideOf Call.Tick h f = accepted (tickOf h) Tick
+decideOf (Call.Advance n) h f = advanceOf h (f .quiet) n
 
 -- 13: unsound state or table
 unfoldable pub isSound : Head → Facts → Bool
@@ -62,7 +62,7 @@ unfoldable pub hasRoom : ℕ → ℕ → Bool
 hasRoom links octets = leb (60 * links) octets
 
 -- of the facts that the pass over so many links found, with so many octets of output
-unfoldable pub judgeOf : Head → Facts → ℕ → ℕ → Request → Plan
+unfoldable pub judgeOf : Head → Facts → ℕ → ℕ → Call → Plan
 judgeOf h f links octets r =
     given
     (Unsound unless isSound h f

@@ -14,7 +14,7 @@ use head_survey::Look;
 use head_table::Event;
 
 // Every call of a head that stands. A link's number is handed in at full width, so that 65,537 isn't link 1.
-pub enum Request {
+pub enum Call {
     Open {
         start: Count,
         length: Quanta,
@@ -62,32 +62,32 @@ fn look_at(link: usize) -> Look
 }
 
 // What the pass over the table is to look for.
-pub fn look(request: Request) -> Look
-    ensures { λ r. ⌜ r ≡ lookOf request ⌝ }
+pub fn look(call: Call) -> Look
+    ensures { λ r. ⌜ r ≡ lookOf call ⌝ }
 {
-    match request {
-        Request::Open {
+    match call {
+        Call::Open {
             start: _,
             length: _,
             sync: _,
             window: _,
         } => look_at(0),
-        Request::Admit {
+        Call::Admit {
             address,
             pending: _,
             sync: _,
         } => Look { link: 0, address },
-        Request::Reject {
+        Call::Reject {
             address: _,
             pending: _,
             sync: _,
         } => look_at(0),
-        Request::Reregister { link, sync: _ } => look_at(link),
-        Request::Deregister { link } => look_at(link),
-        Request::Gate { link, asked: _ } => look_at(link),
-        Request::Hear { link, message: _ } => look_at(link),
-        Request::Tick => look_at(0),
-        Request::Advance(_) => look_at(0),
+        Call::Reregister { link, sync: _ } => look_at(link),
+        Call::Deregister { link } => look_at(link),
+        Call::Gate { link, asked: _ } => look_at(link),
+        Call::Hear { link, message: _ } => look_at(link),
+        Call::Tick => look_at(0),
+        Call::Advance(_) => look_at(0),
     }
 }
 
@@ -102,33 +102,33 @@ fn advance(head: Head, quiet: u32, n: u64) -> Plan
     Plan::leaping(head.after(k).tick(), Event::Leap(k), k as u64 + 1)
 }
 
-fn decide(head: Head, f: Facts, request: Request) -> Plan
-    ensures { λ r. ⌜ r ≡ decideOf request head f ⌝ }
+fn decide(head: Head, f: Facts, call: Call) -> Plan
+    ensures { λ r. ⌜ r ≡ decideOf call head f ⌝ }
 {
     let l = f.link;
-    match request {
-        Request::Open {
+    match call {
+        Call::Open {
             start,
             length,
             sync,
             window,
         } => head_requests::open(head, start, length, sync, window),
-        Request::Admit {
+        Call::Admit {
             address,
             pending,
             sync,
         } => head_requests::admit(head, f, address, pending, sync),
-        Request::Reject {
+        Call::Reject {
             address,
             pending,
             sync,
         } => head_requests::reject(head, address, pending, sync),
-        Request::Reregister { link, sync } => head_requests::reregister(head, l, link, sync),
-        Request::Deregister { link } => head_requests::deregister(head, l, link),
-        Request::Gate { link, asked } => head_requests::gate(head, l, link, asked),
-        Request::Hear { link, message } => head_hearing::hear(head, l, link, message),
-        Request::Tick => Plan::accepted(head.tick(), Event::Tick),
-        Request::Advance(n) => advance(head, f.quiet, n),
+        Call::Reregister { link, sync } => head_requests::reregister(head, l, link, sync),
+        Call::Deregister { link } => head_requests::deregister(head, l, link),
+        Call::Gate { link, asked } => head_requests::gate(head, l, link, asked),
+        Call::Hear { link, message } => head_hearing::hear(head, l, link, message),
+        Call::Tick => Plan::accepted(head.tick(), Event::Tick),
+        Call::Advance(n) => advance(head, f.quiet, n),
     }
 }
 
@@ -146,8 +146,8 @@ fn is_sound(head: Head, f: Facts) -> bool
 }
 
 // So many links are lent, and so many octets.
-pub fn judge(head: Head, f: Facts, links: usize, octets: usize, request: Request) -> Plan
-    ensures { λ r. ⌜ r ≡ judgeOf head f links octets request ⌝ }
+pub fn judge(head: Head, f: Facts, links: usize, octets: usize, call: Call) -> Plan
+    ensures { λ r. ⌜ r ≡ judgeOf head f links octets call ⌝ }
 {
     if !is_sound(head, f) {
         return Plan::refused(head, Reply::Unsound);
@@ -155,5 +155,5 @@ pub fn judge(head: Head, f: Facts, links: usize, octets: usize, request: Request
     if !has_room(links, octets) {
         return Plan::refused(head, Reply::Output);
     }
-    decide(head, f, request)
+    decide(head, f, call)
 }

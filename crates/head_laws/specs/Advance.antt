@@ -40,7 +40,7 @@ use Rattle.head_table.specs.declared.Sender.{Sender}
 use Rattle.head_plans.specs.Plan.{refused, accepted}
 use Rattle.head_plans.specs.declared.Plan.{Plan}
 use Rattle.head_judging.specs.Judge.{lookOf, leapt, hasRoom}
-use Rattle.head_judging.specs.declared.Request.{Request}
+use Rattle.head_judging.specs.declared.Call.{Call}
 use Rattle.frame_writer.specs.Write.{writeOf}
 use Rattle.head_calls.specs.Serve.{Served, served, sentOf, doneOf, serveOf}
 use Rattle.head_laws.specs.Calls.{known, plan-is}
@@ -198,7 +198,7 @@ module _ (s : Served) (r : Ready s) where
 
   tick-serve : again s ≡ doneOf (accepted (headTick (s .answer .next)) Event.Tick) (s .table) (s .octets)
   unfolding serveOf
-  tick-serve = rw (plan-is (s .answer .next) (s .table) Request.Tick (length (s .octets)), r .sound .head, r .sound .table, r .room)
+  tick-serve = rw (plan-is (s .answer .next) (s .table) Call.Tick (length (s .octets)), r .sound .head, r .sound .table, r .room)
 
   tick-done : isDone (again s) ≡ true
   unfolding isDone doneOf
@@ -215,7 +215,7 @@ module _ (s : Served) (r : Ready s) where
   unfolding leapOf
   leap-ready q =
       record {
-        sound = rw (tick-one q) at (call-keeps (s .answer .next) (s .table) Request.Tick (s .octets) (r .sound));
+        sound = rw (tick-one q) at (call-keeps (s .answer .next) (s .table) Call.Tick (s .octets) (r .sound));
         room = rw (passed-length (s .table) 1) (r .room);
       }
 
@@ -340,20 +340,20 @@ module _ (h : Head) (xs : List Link) (os : List ℕ) (r : Ready (stillAt h xs os
       let w : Sender = record { source = h .address; timestamp = nextOf (afterOf h k .count) } in
       rw (leap-driven k 1 xs, leap-sent k w 1 xs (output os 0))
 
-  pub serve-advance : serveOf h xs (Request.Advance n) os ≡ withMade (passing + 1) ending
+  pub serve-advance : serveOf h xs (Call.Advance n) os ≡ withMade (passing + 1) ending
   unfolding serveOf inReach
   serve-advance =
       let s = stillAt h xs os in
       let few = table-parts xs (r .sound .table) .0 in
       let c : Reached passing s (leapOf passing s) = reach passing s r (omega arith) in
       rw (
-        plan-is h xs (Request.Advance n) (length os),
+        plan-is h xs (Call.Advance n) (length os),
         r .sound .head,
         r .sound .table,
         r .room,
         le-leb 1 n lo,
         le-leb n furthestAdvance hi,
-        facts-quiet xs (lookOf (Request.Advance n)) few,
+        facts-quiet xs (lookOf (Call.Advance n)) few,
         ends passing (c .ready),
       )
       (leapt-is passing)
@@ -367,7 +367,7 @@ module _ (h : Head) (xs : List Link) (n : ℕ) (os : List ℕ) where
   tested s k i r = given (number.Unsound unless s ∷ number.Output unless k ∷ number.Grant unless i ∷ []) refusal r
 
   abbrev leaping : Plan
-  leaping = leapt h (min (known xs (Request.Advance n) .quiet) (n - 1))
+  leaping = leapt h (min (known xs (Call.Advance n) .quiet) (n - 1))
 
   abbrev last : Served
   last = let m = ticks again isDone isSilent out n (stillAt h xs os) 0 in withMade (m .made) (m .last)
@@ -379,11 +379,11 @@ module _ (h : Head) (xs : List Link) (n : ℕ) (os : List ℕ) where
   pick true true false = done-refused h number.Grant xs os
   pick true true true = refl
 
-  as-planned : serveOf h xs (Request.Advance n) os
+  as-planned : serveOf h xs (Call.Advance n) os
       ≡ tested (headSound h && soundTable xs) (hasRoom (length xs) (length os)) (inReach n) (doneOf leaping xs os)
   unfolding serveOf
   as-planned =
-      rw (plan-is h xs (Request.Advance n) (length os)) (pick (headSound h && soundTable xs) (hasRoom (length xs) (length os)) (inReach n))
+      rw (plan-is h xs (Call.Advance n) (length os)) (pick (headSound h && soundTable xs) (hasRoom (length xs) (length os)) (inReach n))
 
   as-made : (s : Bool) → (headSound h && soundTable xs) ≡ s → (k : Bool) → hasRoom (length xs) (length os) ≡ k → (i : Bool) → inReach n ≡ i
       → tested s k i (doneOf leaping xs os) ≡ tested s k i last
@@ -397,25 +397,25 @@ module _ (h : Head) (xs : List Link) (n : ℕ) (os : List ℕ) where
       ∙ serve-advance h xs os r n (p .0) (p .1)
       ∙ ap (λ (m : Made). withMade (m .made) (m .last)) (sym (advance-is-ticks h xs os r n (p .0) (p .1)))
 
-  pub advance-page : serveOf h xs (Request.Advance n) os ≡ advancedOf h xs n os
+  pub advance-page : serveOf h xs (Call.Advance n) os ≡ advancedOf h xs n os
   unfolding advancedOf
   advance-page = as-planned ∙ as-made (headSound h && soundTable xs) refl (hasRoom (length xs) (length os)) refl (inReach n) refl
 
 -- quiet ticks, one and many
 module _ (h : Head) (xs : List Link) (os : List ℕ) (r : Ready (stillAt h xs os)) where
-  pub quiet-tick : 1 ≤ quietAll xs → serveOf h xs Request.Tick os ≡ stillAt (afterOf h 1) (passedAll xs 1) os
+  pub quiet-tick : 1 ≤ quietAll xs → serveOf h xs Call.Tick os ≡ stillAt (afterOf h 1) (passedAll xs 1) os
   unfolding leapOf
   quiet-tick q = tick-one (stillAt h xs os) r q
 
   pub quiet-advance : (n : ℕ) → inReach n ≡ true → n ≤ quietAll xs
-      → serveOf h xs (Request.Advance n) os ≡ withMade n (stillAt (afterOf h n) (passedAll xs n) os)
+      → serveOf h xs (Call.Advance n) os ≡ withMade n (stillAt (afterOf h n) (passedAll xs n) os)
   quiet-advance n i q =
       let s = stillAt h xs os in
       let p = reach-parts n i in
       some n (p .0) q (p .1)
     where
       some : (k : ℕ) → 1 ≤ k → k ≤ quietAll xs → k ≤ furthestAdvance
-          → serveOf h xs (Request.Advance k) os ≡ withMade k (stillAt (afterOf h k) (passedAll xs k) os)
+          → serveOf h xs (Call.Advance k) os ≡ withMade k (stillAt (afterOf h k) (passedAll xs k) os)
       some zero l q u = absurd (omega arith)
       some (suc k) l q u =
           let s = stillAt h xs os in

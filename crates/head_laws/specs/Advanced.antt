@@ -13,7 +13,7 @@ use Rattle.frame.specs.declared.Reply.the-variants.{Done, Grant, Output, Unsoun
 use Rattle.head_state.specs.Head.{soundOf}
 use Rattle.head_state.specs.declared.Head.{Head}
 use Rattle.head_judging.specs.Judge.{hasRoom}
-use Rattle.head_judging.specs.declared.Request.{Request}
+use Rattle.head_judging.specs.declared.Call.{Call}
 use Rattle.head_links.specs.declared.Link.{Link}
 use Rattle.head_plans.specs.declared.Kind.{Kind}
 use Rattle.head_plans.specs.declared.Kind.the-variants as kind
@@ -27,14 +27,14 @@ stillAt h xs os = served (telling Done h) xs os
 
 -- the tick after the one that was answered so
 abbrev pub again : Served → Served
-again s = serveOf (s .answer .next) (s .table) Request.Tick (s .octets)
+again s = serveOf (s .answer .next) (s .table) Call.Tick (s .octets)
 
 unfoldable pub isDone : Served → Bool
 isDone s = eqb (numberOf (s .answer .reply)) 0
 
 abbrev pub isNone : Kind → Bool
 isNone kind.Nothing = true
-isNone kind.Request = false
+isNone kind.Call = false
 isNone kind.Registered = false
 isNone kind.Dropped = false
 isNone kind.Report = false

@@ -24,7 +24,7 @@ use Rattle.head_table.specs.declared.Sender.{Sender}
 use Rattle.head_judging.specs.Judge.{lookOf}
 use Rattle.head_plans.specs.declared.Notice.{Notice}
 use Rattle.head_plans.specs.declared.Plan.{Plan}
-use Rattle.head_judging.specs.declared.Request.{Request}
+use Rattle.head_judging.specs.declared.Call.{Call}
 use Rattle.head_calls.specs.Serve.{doneOf, serveOf}
 use Rattle.head_laws.specs.Calls.{planned, known}
 use Rattle.head_laws.specs.Events.{table-parts, nothing-keeps}
@@ -39,14 +39,14 @@ abbrev pub from : Head → Sender
 from h = record { source = h .address; timestamp = h .count }
 
 -- a call that leaves the head as it was, this link at this number, hands out these frames and gives this notice
-pub record Does (h : Head) (xs : List Link) (r : Request) (os : List ℕ) (number : ℕ) (l : Link) (ms : List Message) (n : Notice) : Type 0 where
+pub record Does (h : Head) (xs : List Link) (r : Call) (os : List ℕ) (number : ℕ) (l : Link) (ms : List Message) (n : Notice) : Type 0 where
   pub head : serveOf h xs r os .answer .next ≡ h
   pub link : linkFrom number 1 (serveOf h xs r os .table) ≡ l
   pub frames : callFrames h xs r os ≡ ms
   pub notice : serveOf h xs r os .answer .notice ≡ n
 
 -- one that changes no link, and hands out the head's own frames
-pub record Leads (h : Head) (xs : List Link) (r : Request) (os : List ℕ) (next : Head) (ms : List Message) (n : Notice) : Type 0 where
+pub record Leads (h : Head) (xs : List Link) (r : Call) (os : List ℕ) (next : Head) (ms : List Message) (n : Notice) : Type 0 where
   pub head : serveOf h xs r os .answer .next ≡ next
   pub table : serveOf h xs r os .table ≡ xs
   pub frames : callFrames h xs r os ≡ ms
@@ -59,7 +59,7 @@ port-is xs number n h =
     let most = leb-true (length xs) 64 (and-eq-true-iff (leb 1 (length xs)) (leb (length xs) 64) .0 n .1) in
     omega arith
 
-module _ (h : Head) (xs : List Link) (r : Request) (os : List ℕ) (d : serveOf h xs r os .answer .reply ≡ Done) where
+module _ (h : Head) (xs : List Link) (r : Call) (os : List ℕ) (d : serveOf h xs r os .answer .reply ≡ Done) where
   pub done-few : isFew (length xs) ≡ true
   done-few = table-parts xs (and-eq-true-iff (soundOf h) (soundTable xs) .0 (call-accepted h xs r os d .sound) .1) .0
 

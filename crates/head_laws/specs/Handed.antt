@@ -24,7 +24,7 @@ use Rattle.head_table.specs.declared.Event.{Event}
 use Rattle.head_judging.specs.Judge.{hasRoom}
 use Rattle.head_plans.specs.Plan.{refused}
 use Rattle.head_plans.specs.declared.Plan.{Plan}
-use Rattle.head_judging.specs.declared.Request.{Request}
+use Rattle.head_judging.specs.declared.Call.{Call}
 use Rattle.head_calls.specs.Serve.{senderOf, sentOf, doneOf, planOf, serveOf}
 use Rattle.head_laws.specs.Calls.{tests, planned, known, Outcome, unsound, short, refuses, accepts, outcome}
 use Rattle.head_laws.specs.Events.{table-parts}
@@ -38,17 +38,17 @@ use Rattle.head_laws.specs.Sound.{planned-head, planned-count}
 use Rattle.head_laws.specs.Window.{head-parts}
 
 -- the head's own frame comes with none of a link
-pub planned-apart : (r : Request) (h : Head) (f : Facts) → Passed (tests r h f)
+pub planned-apart : (r : Call) (h : Head) (f : Facts) → Passed (tests r h f)
     → (planned r h f .lead ≡ Nothing) ⊎ (planned r h f .event ≡ Event.Nothing)
-planned-apart (Request.Open start length sync window) h f t = inr refl
-planned-apart (Request.Admit a pending sync) h f t = inl refl
-planned-apart (Request.Reject a pending sync) h f t = inr refl
-planned-apart (Request.Reregister link sync) h f t = inl refl
-planned-apart (Request.Deregister link) h f t = inl refl
-planned-apart (Request.Gate link asked) h f t = inl refl
-planned-apart (Request.Hear link m) h f t = inl (heard-message h (f .link) link m (t .1 .0) .lead)
-planned-apart Request.Tick h f t = inl refl
-planned-apart (Request.Advance n) h f t = inl refl
+planned-apart (Call.Open start length sync window) h f t = inr refl
+planned-apart (Call.Admit a pending sync) h f t = inl refl
+planned-apart (Call.Reject a pending sync) h f t = inr refl
+planned-apart (Call.Reregister link sync) h f t = inl refl
+planned-apart (Call.Deregister link) h f t = inl refl
+planned-apart (Call.Gate link asked) h f t = inl refl
+planned-apart (Call.Hear link m) h f t = inl (heard-message h (f .link) link m (t .1 .0) .lead)
+planned-apart Call.Tick h f t = inl refl
+planned-apart (Call.Advance n) h f t = inl refl
 
 -- the messages of a plan, and the output after it
 pub record Packs (p : Plan) (xs : List Link) (os : List ℕ) : Type 0 where
@@ -70,10 +70,10 @@ refused-packs h x xs os =
     }
 
 -- the frames of a call
-abbrev pub callFrames : Head → List Link → Request → List ℕ → List Message
+abbrev pub callFrames : Head → List Link → Call → List ℕ → List Message
 callFrames h xs r os = framesOf (planOf h xs r (length os)) xs
 
-module _ (h : Head) (xs : List Link) (r : Request) (os : List ℕ) (k : RequestTyped r) (c : h .count .0 < 2 ^ 32) where
+module _ (h : Head) (xs : List Link) (r : Call) (os : List ℕ) (k : RequestTyped r) (c : h .count .0 < 2 ^ 32) where
   accepted-packs : soundOf h ≡ true → soundTable xs ≡ true → 60 * length xs ≤ length os → Passed (tests r h (known xs r))
       → Packs (planned r h (known xs r)) xs os
   unfolding isFew

@@ -29,7 +29,7 @@ use Rattle.head_judging.specs.Judge.{lookOf}
 use Rattle.head_plans.specs.Plan.{quiet, telling}
 use Rattle.head_plans.specs.declared.Kind.{Kind}
 use Rattle.head_plans.specs.declared.Notice.{Notice}
-use Rattle.head_judging.specs.declared.Request.{Request}
+use Rattle.head_judging.specs.declared.Call.{Call}
 use Rattle.head_calls.specs.Serve.{serveOf}
 use Rattle.head_laws.specs.Calls.{planned, known}
 use Rattle.head_laws.specs.Does.{from, Does, Leads, done-few, does, leads, held-number}
@@ -53,8 +53,8 @@ module _ (h : Head) (xs : List Link) (os : List ℕ) (link : ℕ) (m : Message) 
   abbrev trip : Quanta
   trip = record { 0 = roundTrip (h .count .0) (m .timestamp .0) }
 
-  abbrev r : Request
-  r = Request.Hear link m
+  abbrev r : Call
+  r = Call.Hear link m
 
   module _ (d : serveOf h xs r os .answer .reply ≡ Done) where
     plan-of : (body : Body) → m .body ≡ body → planned r h (known xs r) ≡ heardOf body h l link trip

@@ -23,7 +23,7 @@ use Rattle.head_table.specs.declared.Event.{Event}
 use Rattle.head_table.specs.declared.Sender.{Sender}
 use Rattle.head_plans.specs.Plan.{quiet, refused}
 use Rattle.head_plans.specs.declared.Plan.{Plan}
-use Rattle.head_judging.specs.declared.Request.{Request}
+use Rattle.head_judging.specs.declared.Call.{Call}
 use Rattle.head_calls.specs.Serve.{served, senderOf, sentOf, doneOf, planOf, serveOf}
 use Rattle.head_calls.specs.declared.Answer.{Answer}
 use Rattle.head_laws.specs.Calls.{tests, planned, known, allTests, plan-is, Outcome, unsound, short, refuses, accepts, outcome}
@@ -43,16 +43,16 @@ unfolding doneOf sentOf
 done-refused h x xs os = rw (nothing-sent (senderOf (refused h x)) xs (output os 0), nothing-keeps xs)
 
 -- an accepted call is answered 0
-pub planned-done : (r : Request) (h : Head) (f : Facts) → Passed (tests r h f) → planned r h f .reply ≡ Done
-planned-done (Request.Open start length sync window) h f t = refl
-planned-done (Request.Admit a pending sync) h f t = refl
-planned-done (Request.Reject a pending sync) h f t = refl
-planned-done (Request.Reregister link sync) h f t = refl
-planned-done (Request.Deregister link) h f t = refl
-planned-done (Request.Gate link asked) h f t = refl
-planned-done (Request.Hear link m) h f t = heard-message h (f .link) link m (t .1 .0) .reply
-planned-done Request.Tick h f t = refl
-planned-done (Request.Advance n) h f t = refl
+pub planned-done : (r : Call) (h : Head) (f : Facts) → Passed (tests r h f) → planned r h f .reply ≡ Done
+planned-done (Call.Open start length sync window) h f t = refl
+planned-done (Call.Admit a pending sync) h f t = refl
+planned-done (Call.Reject a pending sync) h f t = refl
+planned-done (Call.Reregister link sync) h f t = refl
+planned-done (Call.Deregister link) h f t = refl
+planned-done (Call.Gate link asked) h f t = refl
+planned-done (Call.Hear link m) h f t = heard-message h (f .link) link m (t .1 .0) .reply
+planned-done Call.Tick h f t = refl
+planned-done (Call.Advance n) h f t = refl
 
 -- of any list of tests
 given-reply : (ts : List Test) (h : Head) (p : Plan) → (Passed ts → p .reply ≡ Done) → given ts (refused h) p .reply ≡ answerOf ts
@@ -61,7 +61,7 @@ given-reply (x unless true ∷ ts) h p d = given-reply ts h p (λ t. d (refl, t)
 given-reply (x unless false ∷ ts) h p d = refl
 
 -- what is known of a call that is done
-pub record Accepted (h : Head) (xs : List Link) (r : Request) (p : Plan) : Type 0 where
+pub record Accepted (h : Head) (xs : List Link) (r : Call) (p : Plan) : Type 0 where
   pub sound : (soundOf h && soundTable xs) ≡ true
   pub passed : Passed (tests r h (known xs r))
   pub plan : p ≡ planned r h (known xs r)
@@ -69,13 +69,13 @@ pub record Accepted (h : Head) (xs : List Link) (r : Request) (p : Plan) : Type 
 not-done : (h : Head) (x : Reply) (p : Plan) → p ≡ refused h x → numberOf x ≢ 0 → p .reply ≢ Done
 not-done h x p e n d = n (ap numberOf (sym (ap (λ (q : Plan). q .reply) e) ∙ d))
 
-accepted : (h : Head) (xs : List Link) (r : Request) (room : ℕ) (p : Plan) → Outcome h xs r room p → p .reply ≡ Done → Accepted h xs r p
+accepted : (h : Head) (xs : List Link) (r : Call) (room : ℕ) (p : Plan) → Outcome h xs r room p → p .reply ≡ Done → Accepted h xs r p
 accepted h xs r room p (unsound s e) d = absurd (not-done h Unsound p e (omega arith) d)
 accepted h xs r room p (short s k e) d = absurd (not-done h Output p e (omega arith) d)
 accepted h xs r room p (refuses s k x a b c e) d = absurd (not-done h x p e a d)
 accepted h xs r room p (accepts s k t e) d = record { sound = s; passed = t; plan = e }
 
-module _ (h : Head) (xs : List Link) (r : Request) (os : List ℕ) where
+module _ (h : Head) (xs : List Link) (r : Call) (os : List ℕ) where
   refused-plan : (p : Plan) → Outcome h xs r (length os) p → p .reply ≢ Done → p ≡ refused h (p .reply)
   refused-plan p (unsound s e) n = rw e
   refused-plan p (short s k e) n = rw e

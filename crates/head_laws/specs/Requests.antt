@@ -36,7 +36,7 @@ use Rattle.head_table.specs.declared.Event.{Event}
 use Rattle.head_requests.specs.Client.{fitsParty}
 use Rattle.head_judging.specs.Judge.{lookOf, hasRoom}
 use Rattle.head_plans.specs.Plan.{quiet, accepted}
-use Rattle.head_judging.specs.declared.Request.{Request}
+use Rattle.head_judging.specs.declared.Call.{Call}
 use Rattle.head_calls.specs.Serve.{serveOf}
 use Rattle.head_laws.specs.Calls.{known, allTests}
 use Rattle.head_laws.specs.Does.{from, Does, Leads, done-few, does, leads, held-number}
@@ -59,9 +59,9 @@ other : (xs : List Link) (x : Reply) → numberOf x ≢ 11 → FullOnly xs x
 other xs x n e = absurd (n (ap numberOf e))
 
 full-only : (h : Head) (xs : List Link) (a : Address) (pending : ℕ) (sync : Quanta) (room : ℕ)
-    → FullOnly xs (answerOf (allTests h xs (Request.Admit a pending sync) room))
+    → FullOnly xs (answerOf (allTests h xs (Call.Admit a pending sync) room))
 full-only h xs a pending sync room =
-    let r = Request.Admit a pending sync in
+    let r = Call.Admit a pending sync in
     let f = known xs r in
     either (FullOnly xs) (soundOf h && soundTable xs) _ _
     (λ s.
@@ -81,41 +81,41 @@ full-only h xs a pending sync room =
 
 module _ (h : Head) (xs : List Link) (os : List ℕ) where
   -- admit is answered 11 only where every link is held
-  pub admit-full : (a : Address) (pending : ℕ) (sync : Quanta) → serveOf h xs (Request.Admit a pending sync) os .answer .reply ≡ Full
+  pub admit-full : (a : Address) (pending : ℕ) (sync : Quanta) → serveOf h xs (Call.Admit a pending sync) os .answer .reply ≡ Full
       → (n : ℕ) → Has 1 xs n → isHeld (linkFrom n 1 xs .state) ≡ true
   admit-full a pending sync e =
-      none-idle 1 xs (omega arith) (full-only h xs a pending sync (length os) (sym (call-reply h xs (Request.Admit a pending sync) os) ∙ e))
+      none-idle 1 xs (omega arith) (full-only h xs a pending sync (length os) (sym (call-reply h xs (Call.Admit a pending sync) os) ∙ e))
 
   -- admit: lowest idle link; REGISTER ack; waiting
-  module _ (a : Address) (pending : ℕ) (sync : Quanta) (d : serveOf h xs (Request.Admit a pending sync) os .answer .reply ≡ Done) where
-    admit-idle : known xs (Request.Admit a pending sync) .idle ≡ idleFrom 1 xs
-    admit-idle = facts-idle xs (lookOf (Request.Admit a pending sync)) (done-few h xs (Request.Admit a pending sync) os d)
+  module _ (a : Address) (pending : ℕ) (sync : Quanta) (d : serveOf h xs (Call.Admit a pending sync) os .answer .reply ≡ Done) where
+    admit-idle : known xs (Call.Admit a pending sync) .idle ≡ idleFrom 1 xs
+    admit-idle = facts-idle xs (lookOf (Call.Admit a pending sync)) (done-few h xs (Call.Admit a pending sync) os d)
 
     pub admit-lowest : Lowest 1 xs (idleFrom 1 xs)
     admit-lowest =
-        let t = call-accepted h xs (Request.Admit a pending sync) os d .passed .1 .1 .0 in
-        let some = eqb-false (known xs (Request.Admit a pending sync) .idle) 0 (not-true (eqb (known xs (Request.Admit a pending sync) .idle) 0) t) in
+        let t = call-accepted h xs (Call.Admit a pending sync) os d .passed .1 .1 .0 in
+        let some = eqb-false (known xs (Call.Admit a pending sync) .idle) 0 (not-true (eqb (known xs (Call.Admit a pending sync) .idle) 0) t) in
         lowest-idle 1 xs (λ (e : idleFrom 1 xs ≡ 0). some (admit-idle ∙ e))
 
     pub admit-does :
-        Does h xs (Request.Admit a pending sync) os (idleFrom 1 xs) (waitingAt a)
+        Does h xs (Call.Admit a pending sync) os (idleFrom 1 xs) (waitingAt a)
         (messageOf (from h) a (Register (idleFrom 1 xs) RegisterFlag.Ack sync pending) ∷ []) quiet
     admit-does =
-        does h xs (Request.Admit a pending sync) os d (idleFrom 1 xs) (Change.Admit a pending sync) quiet
+        does h xs (Call.Admit a pending sync) os d (idleFrom 1 xs) (Change.Admit a pending sync) quiet
         (ap (λ (j : ℕ). accepted h (Event.At j (Change.Admit a pending sync))) admit-idle) (admit-lowest .has)
 
   -- reject: REGISTER nack, port 0; no state changes
-  pub reject-does : (a : Address) (pending : ℕ) (sync : Quanta) → serveOf h xs (Request.Reject a pending sync) os .answer .reply ≡ Done
-      → Leads h xs (Request.Reject a pending sync) os h (messageOf (from h) a (Register 0 RegisterFlag.Nack sync pending) ∷ []) quiet
+  pub reject-does : (a : Address) (pending : ℕ) (sync : Quanta) → serveOf h xs (Call.Reject a pending sync) os .answer .reply ≡ Done
+      → Leads h xs (Call.Reject a pending sync) os h (messageOf (from h) a (Register 0 RegisterFlag.Nack sync pending) ∷ []) quiet
   reject-does a pending sync d =
-      leads h xs (Request.Reject a pending sync) os d h (To a (Register 0 RegisterFlag.Nack sync pending)) quiet refl
+      leads h xs (Call.Reject a pending sync) os d h (To a (Register 0 RegisterFlag.Nack sync pending)) quiet refl
 
   -- open: the discovery GATE, force bits 0, to 01-80-C2-00-00-01; the window waits the distance
-  pub open-does : (start : Count) (length sync window : Quanta) → serveOf h xs (Request.Open start length sync window) os .answer .reply ≡ Done
-      → Leads h xs (Request.Open start length sync window) os (withWindow h (opened (h .count) start window))
+  pub open-does : (start : Count) (length sync window : Quanta) → serveOf h xs (Call.Open start length sync window) os .answer .reply ≡ Done
+      → Leads h xs (Call.Open start length sync window) os (withWindow h (opened (h .count) start window))
       (messageOf (from h) (record { 0 = 0x0180C2000001 }) (Discovery (record { start = start; length = length; force = false }) sync) ∷ []) quiet
   open-does start length sync window d =
-      leads h xs (Request.Open start length sync window) os d (withWindow h (opened (h .count) start window))
+      leads h xs (Call.Open start length sync window) os d (withWindow h (opened (h .count) start window))
       (To (record { 0 = 0x0180C2000001 }) (Discovery (record { start = start; length = length; force = false }) sync)) quiet refl
 
   module _ (link : ℕ) where
@@ -123,26 +123,26 @@ module _ (h : Head) (xs : List Link) (os : List ℕ) where
     l = linkFrom link 1 xs
 
     -- reregister sends flag 1 and waits; it echoes pending 0
-    pub reregister-does : (sync : Quanta) → serveOf h xs (Request.Reregister link sync) os .answer .reply ≡ Done
-        → Does h xs (Request.Reregister link sync) os link (waitingAt (l .address))
+    pub reregister-does : (sync : Quanta) → serveOf h xs (Call.Reregister link sync) os .answer .reply ≡ Done
+        → Does h xs (Call.Reregister link sync) os link (waitingAt (l .address))
         (messageOf (from h) (l .address) (Register link RegisterFlag.Reregister sync 0) ∷ []) quiet
     reregister-does sync d =
-        let r = Request.Reregister link sync in
+        let r = Call.Reregister link sync in
         does h xs r os d link (Change.Reregister sync) quiet refl (held-number h xs r os d (call-accepted h xs r os d .passed .0))
 
     -- deregister sends flag 2 with sync 0 and idles the link; it echoes pending 0
-    pub deregister-does : serveOf h xs (Request.Deregister link) os .answer .reply ≡ Done
-        → Does h xs (Request.Deregister link) os link idle
+    pub deregister-does : serveOf h xs (Call.Deregister link) os .answer .reply ≡ Done
+        → Does h xs (Call.Deregister link) os link idle
         (messageOf (from h) (l .address) (Register link RegisterFlag.Deregister (record { 0 = 0 }) 0) ∷ []) quiet
     deregister-does d =
-        let r = Request.Deregister link in
+        let r = Call.Deregister link in
         does h xs r os d link Change.Deregister quiet refl (held-number h xs r os d (call-accepted h xs r os d .passed .0))
 
     -- gate sends the grants asked for, and restarts the periodic timer if registered
-    pub gate-does : (asked : Asked) → serveOf h xs (Request.Gate link asked) os .answer .reply ≡ Done
-        → Does h xs (Request.Gate link asked) os link (gated l (grantsOf asked) .link)
+    pub gate-does : (asked : Asked) → serveOf h xs (Call.Gate link asked) os .answer .reply ≡ Done
+        → Does h xs (Call.Gate link asked) os link (gated l (grantsOf asked) .link)
         (messageOf (from h) (l .address) (Gate (grantsOf asked)) ∷ []) quiet
     gate-does asked d =
-        let r = Request.Gate link asked in
+        let r = Call.Gate link asked in
         rw (← (ap (sentBy (from h)) (gated-sent l (grantsOf asked))))
         (does h xs r os d link (Change.Gate (grantsOf asked)) quiet refl (held-number h xs r os d (call-accepted h xs r os d .passed .0)))

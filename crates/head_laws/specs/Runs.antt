@@ -20,7 +20,7 @@ use Rattle.head_links.specs.declared.Link.{Link}
 use Rattle.head_survey.specs.Facts.{isFew, soundTable}
 use Rattle.head_judging.specs.Judge.{hasRoom}
 use Rattle.head_plans.specs.declared.Plan.{Plan}
-use Rattle.head_judging.specs.declared.Request.{Request}
+use Rattle.head_judging.specs.declared.Call.{Call}
 use Rattle.head_calls.specs.Fresh.{freshOf}
 use Rattle.head_calls.specs.Serve.{served, doneOf, planOf, serveOf}
 use Rattle.head_laws.specs.Calls.{known, Outcome, unsound, short, refuses, accepts, outcome}
@@ -32,20 +32,20 @@ use Rattle.head_laws.specs.Sound.{Sound, planned-count, fresh-sound, cal
 pub data Run : Head → List Link → Type 0 where
   fresh : (a : Address) (xs : List Link) → isIndividual a ≡ true → isFew (length xs) ≡ true
       → Run (freshOf a xs .answer .next) (freshOf a xs .table)
-  calls : (h : Head) (xs : List Link) → Run h xs → (r : Request) (os : List ℕ)
+  calls : (h : Head) (xs : List Link) → Run h xs → (r : Call) (os : List ℕ)
       → Run (serveOf h xs r os .answer .next) (serveOf h xs r os .table)
 
 both-sound : {h : Head} {xs : List Link} → Sound h xs → (soundOf h && soundTable xs) ≡ true
 both-sound {h} {xs} s = and-eq-true-iff (soundOf h) (soundTable xs) .1 (s .head, s .table)
 
-module _ (h : Head) (xs : List Link) (r : Request) (room : ℕ) (s : Sound h xs) where
+module _ (h : Head) (xs : List Link) (r : Call) (room : ℕ) (s : Sound h xs) where
   never : (p : Plan) → Outcome h xs r room p → numberOf (p .reply) ≢ 13
   never p (unsound f e) = absurd (true≢false (sym (both-sound s) ∙ f))
   never p (short f k e) = rw e (omega arith)
   never p (refuses f k x a b c e) = rw e c
   never p (accepts f k t e) = rw (e, planned-done r h (known xs r) t) (omega arith)
 
-count-keeps : (h : Head) (xs : List Link) (r : Request) (room : ℕ) (p : Plan) → Outcome h xs r room p → h .count .0 < 2 ^ 32
+count-keeps : (h : Head) (xs : List Link) (r : Call) (room : ℕ) (p : Plan) → Outcome h xs r room p → h .count .0 < 2 ^ 32
     → p .head .count .0 < 2 ^ 32
 count-keeps h xs r room p (unsound f e) k = rw e k
 count-keeps h xs r room p (short f m e) k = rw e k
@@ -64,18 +64,18 @@ run-count (fresh a xs i n) = rw (fresh-done a xs n i) (omega arith)
 run-count (calls h xs u r os) = count-keeps h xs r (length os) (planOf h xs r (length os)) (outcome h xs r (length os)) (run-count u)
 
 -- so no call is answered 13
-pub run-never-unsound : {h : Head} {xs : List Link} → Run h xs → (r : Request) (os : List ℕ) → numberOf (serveOf h xs r os .answer .reply) ≢ 13
+pub run-never-unsound : {h : Head} {xs : List Link} → Run h xs → (r : Call) (os : List ℕ) → numberOf (serveOf h xs r os .answer .reply) ≢ 13
 run-never-unsound {h} {xs} u r os =
     rw (reply-is h xs r os) (never h xs r (length os) (run-sound u) (planOf h xs r (length os)) (outcome h xs r (length os)))
 
 -- and a tick is done, or answered 12 where the output is shorter than 60 × number of links
 pub run-tick : {h : Head} {xs : List Link} → Run h xs → (os : List ℕ)
-    → serveOf h xs Request.Tick os .answer .reply ≡ cond (leb (60 * length xs) (length os)) Done Output
+    → serveOf h xs Call.Tick os .answer .reply ≡ cond (leb (60 * length xs) (length os)) Done Output
 unfolding hasRoom
-run-tick {h} {xs} u os = call-reply h xs Request.Tick os ∙ rw (both-sound (run-sound u))
+run-tick {h} {xs} u os = call-reply h xs Call.Tick os ∙ rw (both-sound (run-sound u))
 
 -- a fresh head that was refused answers every call with 13, and changes nothing
-pub nobody-refuses : (xs : List Link) (r : Request) (os : List ℕ)
+pub nobody-refuses : (xs : List Link) (r : Call) (os : List ℕ)
     → serveOf (begun nobody) xs r os ≡ served (telling Unsound (begun nobody)) xs os
 nobody-refuses xs r os =
     let reply : serveOf (begun nobody) xs r os .answer .reply ≡ Unsound = call-reply (begun nobody) xs r os ∙ rw nobody-unsound in

@@ -35,7 +35,7 @@ use Rattle.head_survey.specs.declared.Facts.{Facts}
 use Rattle.head_table.specs.Events.{portOf, reactOf}
 use Rattle.head_table.specs.declared.Event.{Event}
 use Rattle.head_requests.specs.Client.{fitsLengths, fitsParty}
-use Rattle.head_judging.specs.declared.Request.{Request}
+use Rattle.head_judging.specs.declared.Call.{Call}
 use Rattle.head_laws.specs.Calls.{tests, planned}
 use Rattle.head_laws.specs.Heard.{ByMessage, Heeds, heard-message}
 use Rattle.head_laws.specs.Links.{individual-fits, address-fits}
@@ -97,23 +97,23 @@ EventFits (Event.Leap k) = Unit {0}
 EventFits (Event.At number c) = ChangeFits c
 
 -- what the types of the code's numbers see to
-abbrev pub RequestTyped : Request → Type 0
-RequestTyped (Request.Open start length sync window) = start .0 < 2 ^ 32
-RequestTyped (Request.Admit a pending sync) = pending < 2 ^ 8
-RequestTyped (Request.Reject a pending sync) = pending < 2 ^ 8
-RequestTyped (Request.Reregister link sync) = Unit {0}
-RequestTyped (Request.Deregister link) = Unit {0}
-RequestTyped (Request.Gate link asked) =
+abbrev pub RequestTyped : Call → Type 0
+RequestTyped (Call.Open start length sync window) = start .0 < 2 ^ 32
+RequestTyped (Call.Admit a pending sync) = pending < 2 ^ 8
+RequestTyped (Call.Reject a pending sync) = pending < 2 ^ 8
+RequestTyped (Call.Reregister link sync) = Unit {0}
+RequestTyped (Call.Deregister link) = Unit {0}
+RequestTyped (Call.Gate link asked) =
     (asked .first .start .0 < 2 ^ 32)
     × (asked .second .start .0 < 2 ^ 32)
     × (asked .third .start .0 < 2 ^ 32)
     × (asked .fourth .start .0 < 2 ^ 32)
-RequestTyped (Request.Hear link m) = Unit {0}
-RequestTyped Request.Tick = Unit {0}
-RequestTyped (Request.Advance n) = Unit {0}
+RequestTyped (Call.Hear link m) = Unit {0}
+RequestTyped Call.Tick = Unit {0}
+RequestTyped (Call.Advance n) = Unit {0}
 
 -- the grants asked for
-asked-typed : (link : ℕ) (asked : Asked) → RequestTyped (Request.Gate link asked) → GrantsTyped (listed (grantsOf asked))
+asked-typed : (link : ℕ) (asked : Asked) → RequestTyped (Call.Gate link asked) → GrantsTyped (listed (grantsOf asked))
 unfolding grantsOf
 asked-typed link asked t =
     either (λ (g : Grants). GrantsTyped (listed g)) (eqb (asked .number) 0) _ _ (λ _. tt)
@@ -161,33 +161,33 @@ react-sends (Event.At j c) l number f s =
     (λ _. change-sends c l (portOf number) f (address-fits l s) (omega arith)) (λ _. tt)
 
 -- so is what an accepted call's change carries
-pub planned-event : (r : Request) (h : Head) (f : Facts) → RequestTyped r → Passed (tests r h f) → EventFits (planned r h f .event)
-planned-event (Request.Open start length sync window) h f k t = tt
-planned-event (Request.Admit a pending sync) h f k t =
+pub planned-event : (r : Call) (h : Head) (f : Facts) → RequestTyped r → Passed (tests r h f) → EventFits (planned r h f .event)
+planned-event (Call.Open start length sync window) h f k t = tt
+planned-event (Call.Admit a pending sync) h f k t =
     let p = party-fits a sync (t .0) in
     (p .0, p .1, k)
-planned-event (Request.Reject a pending sync) h f k t = tt
-planned-event (Request.Reregister link sync) h f k t = t .1 .1 .0
-planned-event (Request.Deregister link) h f k t = tt
-planned-event (Request.Gate link asked) h f k t = (asked-fits asked (t .1 .0), asked-typed link asked k)
-planned-event (Request.Hear link m) h f k t =
-    heeds-fits (planned (Request.Hear link m) h f .event) (f .link) link
+planned-event (Call.Reject a pending sync) h f k t = tt
+planned-event (Call.Reregister link sync) h f k t = t .1 .1 .0
+planned-event (Call.Deregister link) h f k t = tt
+planned-event (Call.Gate link asked) h f k t = (asked-fits asked (t .1 .0), asked-typed link asked k)
+planned-event (Call.Hear link m) h f k t =
+    heeds-fits (planned (Call.Hear link m) h f .event) (f .link) link
     (heard-message h (f .link) link m (t .1 .0) .event)
-planned-event Request.Tick h f k t = tt
-planned-event (Request.Advance n) h f k t = tt
+planned-event Call.Tick h f k t = tt
+planned-event (Call.Advance n) h f k t = tt
 
 -- and what the head itself sends
-pub planned-lead : (r : Request) (h : Head) (f : Facts) → RequestTyped r → Passed (tests r h f) → SentFits (planned r h f .lead)
+pub planned-lead : (r : Call) (h : Head) (f : Facts) → RequestTyped r → Passed (tests r h f) → SentFits (planned r h f .lead)
 unfolding fitsLengths
-planned-lead (Request.Open start length sync window) h f k t = (refl, t .1 .0, k)
-planned-lead (Request.Admit a pending sync) h f k t = tt
-planned-lead (Request.Reject a pending sync) h f k t =
+planned-lead (Call.Open start length sync window) h f k t = (refl, t .1 .0, k)
+planned-lead (Call.Admit a pending sync) h f k t = tt
+planned-lead (Call.Reject a pending sync) h f k t =
     let p = party-fits a sync (t .0) in
     (p .0, p .1, (omega arith, k))
-planned-lead (Request.Reregister link sync) h f k t = tt
-planned-lead (Request.Deregister link) h f k t = tt
-planned-lead (Request.Gate link asked) h f k t = tt
-planned-lead (Request.Hear link m) h f k t =
+planned-lead (Call.Reregister link sync) h f k t = tt
+planned-lead (Call.Deregister link) h f k t = tt
+planned-lead (Call.Gate link asked) h f k t = tt
+planned-lead (Call.Hear link m) h f k t =
     rw (heard-message h (f .link) link m (t .1 .0) .lead) tt
-planned-lead Request.Tick h f k t = tt
-planned-lead (Request.Advance n) h f k t = tt
+planned-lead Call.Tick h f k t = tt
+planned-lead (Call.Advance n) h f k t = tt

@@ -24,7 +24,7 @@ use Rattle.head_table.specs.declared.Event.{Event}
 use Rattle.head_requests.specs.Client.{fitsParty}
 use Rattle.head_judging.specs.Judge.{lookOf}
 use Rattle.head_plans.specs.declared.Plan.{Plan}
-use Rattle.head_judging.specs.declared.Request.{Request}
+use Rattle.head_judging.specs.declared.Call.{Call}
 use Rattle.head_calls.specs.Fresh.{freshOf}
 use Rattle.head_calls.specs.Serve.{doneOf, planOf, serveOf}
 use Rattle.head_laws.specs.Calls.{tests, planned, known, Outcome, unsound, short, refuses, accepts, outcome}
@@ -68,53 +68,53 @@ heeds-fits (Event.Leap k) l link xs q t = absurd t
 heeds-fits (Event.At number c) l link xs q t = rw (t .0, ← q) (message-allowed c l xs (t .1))
 
 -- an accepted call's event may be done on the table
-planned-fits : (r : Request) (h : Head) (xs : List Link) → isFew (length xs) ≡ true → Passed (tests r h (known xs r))
+planned-fits : (r : Call) (h : Head) (xs : List Link) → isFew (length xs) ≡ true → Passed (tests r h (known xs r))
     → Fits (planned r h (known xs r) .event) xs
-planned-fits (Request.Open start length sync window) h xs n t = tt
-planned-fits (Request.Admit a pending sync) h xs n t =
-    let k : Look = lookOf (Request.Admit a pending sync) in
+planned-fits (Call.Open start length sync window) h xs n t = tt
+planned-fits (Call.Admit a pending sync) h xs n t =
+    let k : Look = lookOf (Call.Admit a pending sync) in
     (party-parts a sync (t .0) .0, sym (facts-held xs k n) ∙ not-true (factsOf xs k .held) (t .1 .0))
-planned-fits (Request.Reject a pending sync) h xs n t = tt
-planned-fits (Request.Reregister link sync) h xs n t =
-    ap (λ (l : Link). isRegistered (l .state)) (sym (facts-link xs (lookOf (Request.Reregister link sync)) n)) ∙ t .1 .0
-planned-fits (Request.Deregister link) h xs n t = tt
-planned-fits (Request.Gate link asked) h xs n t = tt
-planned-fits (Request.Hear link m) h xs n t =
-    let l = known xs (Request.Hear link m) .link in
-    heeds-fits (planned (Request.Hear link m) h (known xs (Request.Hear link m)) .event) l link xs
-    (facts-link xs (lookOf (Request.Hear link m)) n) (heard-message h l link m (t .1 .0) .event)
-planned-fits Request.Tick h xs n t = tt
-planned-fits (Request.Advance m) h xs n t =
-    let q = facts-quiet xs (lookOf (Request.Advance m)) n in
+planned-fits (Call.Reject a pending sync) h xs n t = tt
+planned-fits (Call.Reregister link sync) h xs n t =
+    ap (λ (l : Link). isRegistered (l .state)) (sym (facts-link xs (lookOf (Call.Reregister link sync)) n)) ∙ t .1 .0
+planned-fits (Call.Deregister link) h xs n t = tt
+planned-fits (Call.Gate link asked) h xs n t = tt
+planned-fits (Call.Hear link m) h xs n t =
+    let l = known xs (Call.Hear link m) .link in
+    heeds-fits (planned (Call.Hear link m) h (known xs (Call.Hear link m)) .event) l link xs
+    (facts-link xs (lookOf (Call.Hear link m)) n) (heard-message h l link m (t .1 .0) .event)
+planned-fits Call.Tick h xs n t = tt
+planned-fits (Call.Advance m) h xs n t =
+    let q = facts-quiet xs (lookOf (Call.Advance m)) n in
     omega arith
 
-pub planned-head : (r : Request) (h : Head) (f : Facts) → Passed (tests r h f) → soundOf h ≡ true → soundOf (planned r h f .head) ≡ true
-planned-head (Request.Open start length sync window) h f t s = open-keeps h start length sync window s (t .1 .1 .0)
-planned-head (Request.Admit a pending sync) h f t s = s
-planned-head (Request.Reject a pending sync) h f t s = s
-planned-head (Request.Reregister link sync) h f t s = s
-planned-head (Request.Deregister link) h f t s = s
-planned-head (Request.Gate link asked) h f t s = s
-planned-head (Request.Hear link m) h f t s =
+pub planned-head : (r : Call) (h : Head) (f : Facts) → Passed (tests r h f) → soundOf h ≡ true → soundOf (planned r h f .head) ≡ true
+planned-head (Call.Open start length sync window) h f t s = open-keeps h start length sync window s (t .1 .1 .0)
+planned-head (Call.Admit a pending sync) h f t s = s
+planned-head (Call.Reject a pending sync) h f t s = s
+planned-head (Call.Reregister link sync) h f t s = s
+planned-head (Call.Deregister link) h f t s = s
+planned-head (Call.Gate link asked) h f t s = s
+planned-head (Call.Hear link m) h f t s =
     ap soundOf (heard-message h (f .link) link m (t .1 .0) .head) ∙ s
-planned-head Request.Tick h f t s = tick-keeps h s
-planned-head (Request.Advance n) h f t s = tick-keeps (afterOf h (min (f .quiet) (n - 1))) (after-keeps h (min (f .quiet) (n - 1)) s)
+planned-head Call.Tick h f t s = tick-keeps h s
+planned-head (Call.Advance n) h f t s = tick-keeps (afterOf h (min (f .quiet) (n - 1))) (after-keeps h (min (f .quiet) (n - 1)) s)
 
 -- the count is a reading of the 32-bit counter
-pub planned-count : (r : Request) (h : Head) (f : Facts) → Passed (tests r h f) → h .count .0 < 2 ^ 32 → planned r h f .head .count .0 < 2 ^ 32
+pub planned-count : (r : Call) (h : Head) (f : Facts) → Passed (tests r h f) → h .count .0 < 2 ^ 32 → planned r h f .head .count .0 < 2 ^ 32
 unfolding nextOf
-planned-count (Request.Open start length sync window) h f t k = k
-planned-count (Request.Admit a pending sync) h f t k = k
-planned-count (Request.Reject a pending sync) h f t k = k
-planned-count (Request.Reregister link sync) h f t k = k
-planned-count (Request.Deregister link) h f t k = k
-planned-count (Request.Gate link asked) h f t k = k
-planned-count (Request.Hear link m) h f t k =
+planned-count (Call.Open start length sync window) h f t k = k
+planned-count (Call.Admit a pending sync) h f t k = k
+planned-count (Call.Reject a pending sync) h f t k = k
+planned-count (Call.Reregister link sync) h f t k = k
+planned-count (Call.Deregister link) h f t k = k
+planned-count (Call.Gate link asked) h f t k = k
+planned-count (Call.Hear link m) h f t k =
     rw (heard-message h (f .link) link m (t .1 .0) .head) k
-planned-count Request.Tick h f t k = omega arith
-planned-count (Request.Advance n) h f t k = omega arith
+planned-count Call.Tick h f t k = omega arith
+planned-count (Call.Advance n) h f t k = omega arith
 
-module _ (h : Head) (xs : List Link) (r : Request) where
+module _ (h : Head) (xs : List Link) (r : Call) where
   plan-keeps : (room : ℕ) (p : Plan) → Outcome h xs r room p → Sound h xs → Sound (p .head) (drivenOf (p .event) xs)
   plan-keeps room p (unsound f e) s = rw (e, nothing-keeps xs) s
   plan-keeps room p (short f k e) s = rw (e, nothing-keeps xs) s

@@ -23,7 +23,7 @@ use Rattle.head_survey.specs.Facts.{linkFrom}
 use Rattle.head_table.specs.Events.{portOf, reacted, drivenOf}
 use Rattle.head_table.specs.declared.Event.{Event}
 use Rattle.head_plans.specs.declared.Plan.{Plan}
-use Rattle.head_judging.specs.declared.Request.{Request}
+use Rattle.head_judging.specs.declared.Call.{Call}
 use Rattle.head_calls.specs.Serve.{doneOf, planOf, serveOf}
 use Rattle.head_laws.specs.Calls.{planned, known}
 use Rattle.head_laws.specs.Refusals.{call-accepted}
@@ -36,17 +36,17 @@ tick-link n k (x ∷ xs) =
     (λ t. rw (t, eqb-true k n t))
     (λ t. tick-link n (suc k) xs ∙ rw t)
 
-module _ (h : Head) (xs : List Link) (os : List ℕ) (d : serveOf h xs Request.Tick os .answer .reply ≡ Done) where
-  tick-plan : planOf h xs Request.Tick (length os) ≡ planned Request.Tick h (known xs Request.Tick)
-  tick-plan = call-accepted h xs Request.Tick os d .plan
+module _ (h : Head) (xs : List Link) (os : List ℕ) (d : serveOf h xs Call.Tick os .answer .reply ≡ Done) where
+  tick-plan : planOf h xs Call.Tick (length os) ≡ planned Call.Tick h (known xs Call.Tick)
+  tick-plan = call-accepted h xs Call.Tick os d .plan
 
   -- a tick that is done moves the head's count and window
-  pub tick-head : serveOf h xs Request.Tick os .answer .next ≡ headTick h
+  pub tick-head : serveOf h xs Call.Tick os .answer .next ≡ headTick h
   unfolding serveOf doneOf
   tick-head = ap (λ (p : Plan). p .head) tick-plan
 
   -- and every link
-  pub tick-links : (n : ℕ) → linkFrom n 1 (serveOf h xs Request.Tick os .table) ≡ tickOf (linkFrom n 1 xs) (portOf n) .link
+  pub tick-links : (n : ℕ) → linkFrom n 1 (serveOf h xs Call.Tick os .table) ≡ tickOf (linkFrom n 1 xs) (portOf n) .link
   unfolding serveOf doneOf
   tick-links n = ap (λ (p : Plan). linkFrom n 1 (drivenOf (p .event) xs)) tick-plan ∙ tick-link n 1 xs
 

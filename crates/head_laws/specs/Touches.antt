@@ -24,7 +24,7 @@ use Rattle.head_table.specs.Events.{reacted, drivenOf}
 use Rattle.head_table.specs.declared.Event.{Event}
 use Rattle.head_table.specs.declared.Sender.{Sender}
 use Rattle.head_plans.specs.declared.Plan.{Plan}
-use Rattle.head_judging.specs.declared.Request.{Request}
+use Rattle.head_judging.specs.declared.Call.{Call}
 use Rattle.head_calls.specs.Serve.{senderOf, doneOf, planOf, serveOf}
 use Rattle.head_laws.specs.Calls.{tests, planned, known, Outcome, unsound, short, refuses, accepts, outcome}
 use Rattle.head_laws.specs.Events.{nothing-keeps}
@@ -35,27 +35,27 @@ use Rattle.head_laws.specs.Numbered.{changed-one}
 use Rattle.head_laws.specs.Places.{elsewhere}
 
 -- the link that a request is about; 0 is no link
-abbrev pub about : Request → List Link → ℕ
-about (Request.Open start length sync window) xs = 0
-about (Request.Admit a pending sync) xs = known xs (Request.Admit a pending sync) .idle
-about (Request.Reject a pending sync) xs = 0
-about (Request.Reregister link sync) xs = link
-about (Request.Deregister link) xs = link
-about (Request.Gate link asked) xs = link
-about (Request.Hear link m) xs = link
-about Request.Tick xs = 0
-about (Request.Advance n) xs = 0
+abbrev pub about : Call → List Link → ℕ
+about (Call.Open start length sync window) xs = 0
+about (Call.Admit a pending sync) xs = known xs (Call.Admit a pending sync) .idle
+about (Call.Reject a pending sync) xs = 0
+about (Call.Reregister link sync) xs = link
+about (Call.Deregister link) xs = link
+about (Call.Gate link asked) xs = link
+about (Call.Hear link m) xs = link
+about Call.Tick xs = 0
+about (Call.Advance n) xs = 0
 
-abbrev pub NotTick : Request → Type 0
-NotTick (Request.Open start length sync window) = Unit {0}
-NotTick (Request.Admit a pending sync) = Unit {0}
-NotTick (Request.Reject a pending sync) = Unit {0}
-NotTick (Request.Reregister link sync) = Unit {0}
-NotTick (Request.Deregister link) = Unit {0}
-NotTick (Request.Gate link asked) = Unit {0}
-NotTick (Request.Hear link m) = Unit {0}
-NotTick Request.Tick = ⊥
-NotTick (Request.Advance n) = ⊥
+abbrev pub NotTick : Call → Type 0
+NotTick (Call.Open start length sync window) = Unit {0}
+NotTick (Call.Admit a pending sync) = Unit {0}
+NotTick (Call.Reject a pending sync) = Unit {0}
+NotTick (Call.Reregister link sync) = Unit {0}
+NotTick (Call.Deregister link) = Unit {0}
+NotTick (Call.Gate link asked) = Unit {0}
+NotTick (Call.Hear link m) = Unit {0}
+NotTick Call.Tick = ⊥
+NotTick (Call.Advance n) = ⊥
 
 -- an event that changes at most the link of that number
 abbrev Concerns : Event → ℕ → Type 0
@@ -72,19 +72,19 @@ heeds-concerns Event.Tick l link t = t
 heeds-concerns (Event.Leap k) l link t = t
 heeds-concerns (Event.At j c) l link t = t .0
 
-planned-concerns : (r : Request) (h : Head) (xs : List Link) → NotTick r → Passed (tests r h (known xs r))
+planned-concerns : (r : Call) (h : Head) (xs : List Link) → NotTick r → Passed (tests r h (known xs r))
     → Concerns (planned r h (known xs r) .event) (about r xs)
-planned-concerns (Request.Open start length sync window) h xs n t = tt
-planned-concerns (Request.Admit a pending sync) h xs n t = refl
-planned-concerns (Request.Reject a pending sync) h xs n t = tt
-planned-concerns (Request.Reregister link sync) h xs n t = refl
-planned-concerns (Request.Deregister link) h xs n t = refl
-planned-concerns (Request.Gate link asked) h xs n t = refl
-planned-concerns (Request.Hear link m) h xs n t =
-    let f = known xs (Request.Hear link m) in
-    heeds-concerns (planned (Request.Hear link m) h f .event) (f .link) link (heard-message h (f .link) link m (t .1 .0) .event)
-planned-concerns Request.Tick h xs n t = absurd n
-planned-concerns (Request.Advance m) h xs n t = absurd n
+planned-concerns (Call.Open start length sync window) h xs n t = tt
+planned-concerns (Call.Admit a pending sync) h xs n t = refl
+planned-concerns (Call.Reject a pending sync) h xs n t = tt
+planned-concerns (Call.Reregister link sync) h xs n t = refl
+planned-concerns (Call.Deregister link) h xs n t = refl
+planned-concerns (Call.Gate link asked) h xs n t = refl
+planned-concerns (Call.Hear link m) h xs n t =
+    let f = known xs (Call.Hear link m) in
+    heeds-concerns (planned (Call.Hear link m) h f .event) (f .link) link (heard-message h (f .link) link m (t .1 .0) .event)
+planned-concerns Call.Tick h xs n t = absurd n
+planned-concerns (Call.Advance m) h xs n t = absurd n
 
 -- the link of another number stays
 at-keeps : (j n k : ℕ) (c : Change) (xs : List Link) → n ≢ j → linkFrom n k (places (reacted (Event.At j c)) k xs) ≡ linkFrom n k xs
@@ -104,7 +104,7 @@ event-keeps Event.Tick j n xs q d = absurd q
 event-keeps (Event.Leap k) j n xs q d = absurd q
 event-keeps (Event.At i c) j n xs q d = at-keeps i n 1 c xs (λ (p : n ≡ i). d (p ∙ q))
 
-plan-touches : (h : Head) (xs : List Link) (r : Request) (room : ℕ) (p : Plan) → NotTick r → Outcome h xs r room p
+plan-touches : (h : Head) (xs : List Link) (r : Call) (room : ℕ) (p : Plan) → NotTick r → Outcome h xs r room p
     → (n : ℕ) → n ≢ about r xs → linkFrom n 1 (drivenOf (p .event) xs) ≡ linkFrom n 1 xs
 plan-touches h xs r room p i (unsound f e) n d = rw (e, nothing-keeps xs)
 plan-touches h xs r room p i (short f k e) n d = rw (e, nothing-keeps xs)
@@ -119,7 +119,7 @@ concerns-one Event.Tick j s xs q = absurd q
 concerns-one (Event.Leap k) j s xs q = absurd q
 concerns-one (Event.At i c) j s xs q = changed-one i c s 1 xs
 
-plan-one : (h : Head) (xs : List Link) (r : Request) (room : ℕ) (p : Plan) → NotTick r → Outcome h xs r room p → length (framesOf p xs) ≤ 1
+plan-one : (h : Head) (xs : List Link) (r : Call) (room : ℕ) (p : Plan) → NotTick r → Outcome h xs r room p → length (framesOf p xs) ≤ 1
 plan-one h xs r room p i (unsound f e) = rw (e, refused-frames h Unsound xs) (omega arith)
 plan-one h xs r room p i (short f k e) = rw (e, refused-frames h Output xs) (omega arith)
 plan-one h xs r room p i (refuses f k x a b c e) = rw (e, refused-frames h x xs) (omega arith)
@@ -130,7 +130,7 @@ plan-one h xs r room p i (accepts f k t e) =
     (concerns-one (q .event) (about r xs) (senderOf q) xs (planned-concerns r h xs i t)))
 
 rejected : (h : Head) (xs : List Link) (a : Address) (pending : ℕ) (sync : Quanta) (room : ℕ) (p : Plan)
-    → Outcome h xs (Request.Reject a pending sync) room p → (p .head ≡ h) × (drivenOf (p .event) xs ≡ xs)
+    → Outcome h xs (Call.Reject a pending sync) room p → (p .head ≡ h) × (drivenOf (p .event) xs ≡ xs)
 rejected h xs a pending sync room p (unsound f e) = rw (e, nothing-keeps xs) (refl, refl)
 rejected h xs a pending sync room p (short f k e) = rw (e, nothing-keeps xs) (refl, refl)
 rejected h xs a pending sync room p (refuses f k x b c d e) = rw (e, nothing-keeps xs) (refl, refl)
@@ -138,18 +138,18 @@ rejected h xs a pending sync room p (accepts f k t e) = rw (e, nothing-keeps xs)
 
 module _ (h : Head) (xs : List Link) (os : List ℕ) where
   -- a call that is no tick leaves every link as it was but the one that it is about
-  pub call-touches : (r : Request) → NotTick r → (n : ℕ) → n ≢ about r xs → linkFrom n 1 (serveOf h xs r os .table) ≡ linkFrom n 1 xs
+  pub call-touches : (r : Call) → NotTick r → (n : ℕ) → n ≢ about r xs → linkFrom n 1 (serveOf h xs r os .table) ≡ linkFrom n 1 xs
   unfolding serveOf doneOf
   call-touches r i = plan-touches h xs r (length os) (planOf h xs r (length os)) i (outcome h xs r (length os))
 
   -- and hands out one frame at most
-  pub call-one : (r : Request) → NotTick r → length (callFrames h xs r os) ≤ 1
+  pub call-one : (r : Call) → NotTick r → length (callFrames h xs r os) ≤ 1
   call-one r i = plan-one h xs r (length os) (planOf h xs r (length os)) i (outcome h xs r (length os))
 
   -- a rejection changes no state: neither the head nor any link
   pub reject-keeps : (a : Address) (pending : ℕ) (sync : Quanta)
-      → (serveOf h xs (Request.Reject a pending sync) os .answer .next ≡ h) × (serveOf h xs (Request.Reject a pending sync) os .table ≡ xs)
+      → (serveOf h xs (Call.Reject a pending sync) os .answer .next ≡ h) × (serveOf h xs (Call.Reject a pending sync) os .table ≡ xs)
   unfolding serveOf doneOf
   reject-keeps a pending sync =
-      let r = Request.Reject a pending sync in
+      let r = Call.Reject a pending sync in
       rejected h xs a pending sync (length os) (planOf h xs r (length os)) (outcome h xs r (length os))

@@ -11,7 +11,7 @@ use Rattle.frame.specs.declared.Message.{Message}
 use Rattle.frame_range.specs.Fits.{isIndividual}
 use Rattle.box_calls.specs.declared.Answer as floor
 use Rattle.box_calls.specs.declared.FloorBox.{FloorBox}
-use Rattle.head_judging.specs.declared.Request.{Request}
+use Rattle.head_judging.specs.declared.Call.{Call}
 use Rattle.pair_demand.specs.Run.{Answer, Holds, Event, box-hears, both-tick, after, Allowed}
 use Rattle.pair_box.specs.End.{EndThat}
 use Rattle.pair_box.proofs.Exact.{RegisteredFor, tick-done, registered-tick, gate-restarts}
@@ -74,7 +74,7 @@ module _ (A : Address) (i : isIndividual A ≡ true) (hears : FloorBox → Messa
   echoes-on k m e =
       let y = after HE BE m (both-tick out tt) in
       let w = ticked 62_499_998 m (e .full) in
-      let g = ticks-on (IsGate A) (asked (m .head) Request.Tick out .sent) (e .gate) in
+      let g = ticks-on (IsGate A) (asked (m .head) Call.Tick out .sent) (e .gate) in
       let hearing : Event HE BE = box-hears 0 (record { frame = g .octets; age = suc (e .age) }) in
       let full : Lingers 62_499_999 (after HE BE y hearing) =
       record { ready = w .ready; none = w .none; box = heard y 62_499_999 (suc (e .age)) g (w .box) } in

@@ -25,7 +25,7 @@ use Rattle.head_links.specs.declared.Link.{Link}
 use Rattle.head_plans.specs.declared.Plan.{Plan}
 use Rattle.head_survey.specs.Facts.{idleFrom}
 use Rattle.head_table.specs.Output.{messageOf}
-use Rattle.head_judging.specs.declared.Request.{Request}
+use Rattle.head_judging.specs.declared.Call.{Call}
 use Rattle.head_laws.specs.Calls.{known}
 use Rattle.head_laws.specs.Does.{from}
 use Rattle.head_laws.specs.Numbered.{held-has}
@@ -61,8 +61,8 @@ module _ (A : Address) where
     pub link : RegisteredFor A 62_500_000 (linkAt s 1)
 
   module _ (i : isIndividual A ≡ true) (h : Head) (s : HeadState) where
-    abbrev pub admit : Request
-    admit = Request.Admit A 0 sync
+    abbrev pub admit : Call
+    admit = Call.Admit A 0 sync
 
     pub admits : Free A h s
         → Waits h (asked s admit out .next) × ((l : List (Aged (List ℕ))) → OnWay (IsOffer A) 0 (map stamp (asked s admit out .sent) ++ l))
@@ -92,10 +92,10 @@ module _ (A : Address) where
       stays : confirms .next .head ≡ s .head
       stays =
           let m = o .message in
-          let f = known (s .table) (Request.Hear 1 m) in
+          let f = known (s .table) (Call.Hear 1 m) in
           let trip : Quanta = record { 0 = roundTrip (s .head .count .0) (m .timestamp .0) } in
           ap (λ (x : Option Message). heard s 1 out x .next .head) (o .carries)
-          ∙ head-stays s (Request.Hear 1 m)
+          ∙ head-stays s (Call.Hear 1 m)
           (ap (λ (b : Body). heardOf b (s .head) (f .link) 1 trip .head) (o .is .0) ∙ confirmed-head (s .head) (f .link) 1 trip)
 
       pub accepts : Serves h (confirms .next) × ((l : List (Aged (List ℕ))) → OnWay (IsGate A) 0 (map stamp (confirms .sent) ++ l))
@@ -110,7 +110,7 @@ module _ (A : Address) where
           )
 
     -- the client of the head drops the link
-    pub drops : Serves h s → Quiet A h (asked s (Request.Deregister 1) out .next)
+    pub drops : Serves h s → Quiet A h (asked s (Call.Deregister 1) out .next)
     drops w =
         let d = deregister-none (w .ready) A 1 (w .link .0) in
-        record { ready = d .0 .ready; head = head-stays s (Request.Deregister 1) refl ∙ w .head; none = d .1 }
+        record { ready = d .0 .ready; head = head-stays s (Call.Deregister 1) refl ∙ w .head; none = d .1 }

@@ -14,7 +14,7 @@ use Rattle.head_links.specs.Link.{idle}
 use Rattle.head_survey.specs.Facts.{isFew}
 use Rattle.head_state.specs.Head.{begun}
 use Rattle.head_plans.specs.declared.Plan.{Plan}
-use Rattle.head_judging.specs.declared.Request.{Request}
+use Rattle.head_judging.specs.declared.Call.{Call}
 use Rattle.head_calls.specs.Fresh.{Freshly}
 use Rattle.head_calls.specs.Serve.{doneOf, planOf, serveOf}
 use Rattle.head_laws.specs.Calls.{planned, known, Outcome, unsound, short, refuses, accepts, outcome}
@@ -50,7 +50,7 @@ begun-fresh =
     )
 
 -- a call that is neither an opening nor a tick leaves the head itself, its count and its window, done or refused
-module _ (s : HeadState) (r : Request) where
+module _ (s : HeadState) (r : Call) where
   planned-stays : (room : ℕ) (p : Plan) → Outcome (s .head) (s .table) r room p → planned r (s .head) (known (s .table) r) .head ≡ s .head
       → p .head ≡ s .head
   planned-stays room p (unsound f e) q = ap (λ (x : Plan). x .head) e

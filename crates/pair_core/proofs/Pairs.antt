@@ -13,7 +13,7 @@ use Rattle.frame_range.specs.Fits.{isIndividual}
 use Rattle.box_calls.specs.Answer.{messageOf}
 use Rattle.box_calls.specs.declared.Answer as floor
 use Rattle.box_calls.specs.declared.FloorBox.{FloorBox}
-use Rattle.head_judging.specs.declared.Request.{Request}
+use Rattle.head_judging.specs.declared.Call.{Call}
 use Rattle.pair_wire.specs.Carried.{carries-valid}
 use Rattle.pair_demand.specs.Run.{Answer, stamp, head-call, head-hears, box-hears}
 use Rattle.pair_box.specs.End.{EndThat, BoxEnd}
@@ -102,10 +102,10 @@ module _ (A : Address) (i : isIndividual A ≡ true) (hears : FloorBox → Messa
 
   dropped : (m : M) → Paired m → Way HE BE D m 0 Dropped
   dropped m q =
-      then HE BE D m Dropped (head-call (asks (Request.Deregister 1) out)) (tt, tt, tt) (
+      then HE BE D m Dropped (head-call (asks (Call.Deregister 1) out)) (tt, tt, tt) (
         record { h = later; quiet = drops A i later (m .head) (q .0); shut = later-idle },
         q .1,
-        stays-on (IsGate A) (asked (m .head) (Request.Deregister 1) out .sent) (q .2),
+        stays-on (IsGate A) (asked (m .head) (Call.Deregister 1) out .sent) (q .2),
       )
 
   pub to-dropped : Way HE BE D (start A i hears same D) 32 Dropped

@@ -26,7 +26,7 @@ use Rattle.head_state.specs.declared.Window.the-variants.{Idle, Before, Inside}
 use Rattle.head_state.specs.declared.Head.{Head}
 use Rattle.head_table.specs.Output.{messageOf}
 use Rattle.head_requests.specs.Client.{fitsLengths, mayOpen}
-use Rattle.head_judging.specs.declared.Request.{Request}
+use Rattle.head_judging.specs.declared.Call.{Call}
 use Rattle.head_laws.specs.Does.{from}
 use Rattle.head_laws.specs.Ticks.{tick-head}
 use Rattle.pair_demand.specs.Run.{Answer, Holds}
@@ -52,8 +52,8 @@ sync = record { 0 = 0 }
 abbrev pub window : Quanta
 window = record { 0 = 1 }
 
-abbrev pub opening : Count → Request
-opening start = Request.Open start (record { 0 = 74 }) sync window
+abbrev pub opening : Count → Call
+opening start = Call.Open start (record { 0 = 74 }) sync window
 
 abbrev pub openedAt : Count → Head → Head
 openedAt start h = withWindow h (opened (h .count) start window)
@@ -118,16 +118,16 @@ module _ (A : Address) where
       }
 
   module _ (h : Head) (s : HeadState) where
-    pub quiet-ticks : Quiet h s → Quiet (tickOf h) (asked s Request.Tick out .next)
+    pub quiet-ticks : Quiet h s → Quiet (tickOf h) (asked s Call.Tick out .next)
     quiet-ticks q =
         let y = q .ready in
         record {
           ready = ready-tick y .ready;
-          head = tick-head (s .head) (s .table) out (ready-done y Request.Tick tt) ∙ ap tickOf (q .head);
+          head = tick-head (s .head) (s .table) out (ready-done y Call.Tick tt) ∙ ap tickOf (q .head);
           none = none-ticks y A (q .none);
         }
 
-    pub free-ticks : Free h s → Free (tickOf h) (asked s Request.Tick out .next)
+    pub free-ticks : Free h s → Free (tickOf h) (asked s Call.Tick out .next)
     free-ticks f = record { quiet = quiet-ticks (f .quiet); idle = idle-ticks (f .quiet .ready) 1 (f .idle) }
 
     -- it calls for newcomers
@@ -161,5 +161,5 @@ module _ (A : Address) where
           let d = does (f .quiet) in
           (record { quiet = o .0; idle = subst (λ (x : HeadState). linkAt x 1 .state ≡ State.Idle) (sym (d .1)) (f .idle) }, o .1)
 
-  pub shut-ticks : (s : HeadState) → Shut s → Shut (asked s Request.Tick out .next)
+  pub shut-ticks : (s : HeadState) → Shut s → Shut (asked s Call.Tick out .next)
   shut-ticks s x = record { h = tickOf (x .h); quiet = quiet-ticks (x .h) s (x .quiet); shut = idle-stays (x .h .window) (x .shut) }

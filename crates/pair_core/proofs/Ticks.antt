@@ -8,7 +8,7 @@ use lib.ListN.{length}
 use Rattle.clock.specs.Numbers.{watchdog, wait}
 use Rattle.frame.specs.declared.Address.{Address}
 use Rattle.frame.specs.declared.Message.{Message}
-use Rattle.head_judging.specs.declared.Request.{Request}
+use Rattle.head_judging.specs.declared.Call.{Call}
 use Rattle.head_laws.specs.Sound.{call-length}
 use Rattle.pair_wire.specs.Carried.{messageIn}
 use Rattle.pair_wire.specs.Restarts.{downRestarts, upRestarts}
@@ -46,7 +46,7 @@ module _ (A : Address) (D : ℕ) where
   -- the number of links stays
   heard-length : (s : HeadState) (link : ℕ) (out : List ℕ) (c : Option Message) → length (heard s link out c .next .table) ≡ length (s .table)
   heard-length s link out none = refl
-  heard-length s link out (some m) = call-length (s .head) (s .table) (Request.Hear link m) out
+  heard-length s link out (some m) = call-length (s .head) (s .table) (Call.Hear link m) out
 
   call-stays : (s : HeadState) (c : HeadCall) → length (callOf s c .next .table) ≡ length (s .table)
   call-stays s (asks r out) = call-length (s .head) (s .table) r out
@@ -57,7 +57,7 @@ module _ (A : Address) (D : ℕ) where
   event-stays m (head-hears v x) = heard-length (m .head) (v .link) (v .output) (messageIn (x .frame))
   event-stays m (box-call c) = refl
   event-stays m (box-hears v x) = refl
-  event-stays m (both-tick out l) = call-length (m .head .head) (m .head .table) Request.Tick out
+  event-stays m (both-tick out l) = call-length (m .head .head) (m .head .table) Call.Tick out
 
   links-stay : (m : M) (es : List (Event HE BE)) → length (play HE BE m es .head .table) ≡ length (m .head .table)
   links-stay m [] = refl

@@ -28,7 +28,7 @@ use Rattle.head_survey.specs.Facts.{isFew, anyHolds, idleFrom, linkFrom}
 use Rattle.head_table.specs.Output.{messageOf}
 use Rattle.head_requests.specs.Client.{fitsLengths, mayOpen, fitsParty}
 use Rattle.head_judging.specs.Judge.{lookOf}
-use Rattle.head_judging.specs.declared.Request.{Request}
+use Rattle.head_judging.specs.declared.Call.{Call}
 use Rattle.head_laws.specs.Calls.{tests, known}
 use Rattle.head_laws.specs.Does.{from}
 use Rattle.head_laws.specs.Events.{table-parts}
@@ -69,8 +69,8 @@ module _ {out : List ℕ} {s : HeadState} (y : Ready out s) (A : Address) where
 
   -- admit
   module _ (pending : ℕ) (sync : Quanta) where
-    abbrev admit : Request
-    admit = Request.Admit A pending sync
+    abbrev admit : Call
+    admit = Call.Admit A pending sync
 
     admit-passes : isIndividual A ≡ true → fitsLength sync ≡ true → ¬ Holds (HeadEnd A) s → eqb (idleFrom 1 xs) 0 ≡ false
         → Passed (tests admit (s .head) (known xs admit))
@@ -100,8 +100,8 @@ module _ {out : List ℕ} {s : HeadState} (y : Ready out s) (A : Address) where
 
   -- open: the links are as they were, and the discovery GATE goes out
   module _ (start : Count) (length sync window : Quanta) where
-    abbrev open-window : Request
-    open-window = Request.Open start length sync window
+    abbrev open-window : Call
+    open-window = Call.Open start length sync window
 
     abbrev discovery : Message
     discovery =
@@ -123,8 +123,8 @@ module _ {out : List ℕ} {s : HeadState} (y : Ready out s) (A : Address) where
 
   -- deregister
   module _ (n : ℕ) (g : RegisteredLink A (linkAt s n)) where
-    abbrev drop : Request
-    drop = Request.Deregister n
+    abbrev drop : Call
+    drop = Call.Deregister n
 
     found : known xs drop .link ≡ linkAt s n
     found = facts-link xs (lookOf drop) few

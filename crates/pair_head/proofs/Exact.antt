@@ -11,7 +11,7 @@ use Rattle.head_links.specs.declared.Link.{Link}
 use Rattle.head_links.specs.declared.State.{State}
 use Rattle.head_links.specs.declared.State.the-variants.{Idle, Waiting}
 use Rattle.head_table.specs.Events.{portOf}
-use Rattle.head_judging.specs.declared.Request.{Request}
+use Rattle.head_judging.specs.declared.Call.{Call}
 use Rattle.head_calls.specs.Serve.{serveOf}
 use Rattle.head_laws.specs.Events.{table-parts, found-sound}
 use Rattle.head_laws.specs.Links.{held-at, holds-at}
@@ -32,14 +32,14 @@ WaitingFor A left l = (l .state ≡ Waiting) × (l .address ≡ A) × (l .wait .
 
 module _ {out : List ℕ} {s : HeadState} (y : Ready out s) where
   abbrev ticked : HeadState
-  ticked = asked s Request.Tick out .next
+  ticked = asked s Call.Tick out .next
 
-  tick-done : serveOf (s .head) (s .table) Request.Tick out .answer .reply ≡ Done
-  tick-done = ready-done y Request.Tick tt
+  tick-done : serveOf (s .head) (s .table) Call.Tick out .answer .reply ≡ Done
+  tick-done = ready-done y Call.Tick tt
 
   -- the tick is not refused
-  pub ready-tick : Taken out (asked s Request.Tick out)
-  ready-tick = ready-taken y Request.Tick tick-done
+  pub ready-tick : Taken out (asked s Call.Tick out)
+  ready-tick = ready-taken y Call.Tick tick-done
 
   link-ticked : (n : ℕ) → linkAt ticked n ≡ tickOf (linkAt s n) (portOf n) .link
   link-ticked = tick-links (s .head) (s .table) out tick-done

@@ -19,7 +19,7 @@ use Rattle.head_links.specs.declared.State.the-variants.{Waiting, Registered}
 use Rattle.head_survey.specs.Facts.{allSound}
 use Rattle.head_plans.specs.Plan.{refused}
 use Rattle.head_plans.specs.declared.Plan.{Plan}
-use Rattle.head_judging.specs.declared.Request.{Request}
+use Rattle.head_judging.specs.declared.Call.{Call}
 use Rattle.head_calls.specs.Serve.{senderOf, doneOf, planOf, serveOf}
 use Rattle.head_laws.specs.Calls.{Outcome, unsound, short, refuses, accepts, outcome}
 use Rattle.head_laws.specs.Events.{table-parts, found-sound}
@@ -64,7 +64,7 @@ module _ (A : Address) where
   refused-complies : {kept : Bool} (s : HeadState) (x : Reply) → Complies A 0 kept (refused (s .head) x) (s .table)
   refused-complies {kept} s x = record { lead = tt; links = nothing-behaves A kept 1 (s .table) }
 
-  module _ (s : HeadState) (r : Request) (out : List ℕ) (o : gauge .Ok s) where
+  module _ (s : HeadState) (r : Call) (out : List ℕ) (o : gauge .Ok s) where
     abbrev plan : Plan
     plan = planOf (s .head) (s .table) r (length out)
 
@@ -98,26 +98,26 @@ module _ (A : Address) where
     request-law t n k = complying t (outcome-complies n k plan (outcome (s .head) (s .table) r (length out)))
 
   -- a tick that is not refused
-  tick-complies : (s : HeadState) (out : List ℕ) → gauge .Ok s → (p : Plan) → Outcome (s .head) (s .table) Request.Tick (length out) p
+  tick-complies : (s : HeadState) (out : List ℕ) → gauge .Ok s → (p : Plan) → Outcome (s .head) (s .table) Call.Tick (length out) p
       → numberOf (p .reply) ≡ 0 → Complies A 1 false p (s .table)
   tick-complies s out o p (unsound f e) z = absurd (omega (arith, rw e at z))
   tick-complies s out o p (short f m e) z = absurd (omega (arith, rw e at z))
   tick-complies s out o p (refuses f m x a b c e) z = absurd (a (rw e at z))
   tick-complies s out o p (accepts f m t e) z = rw e (record { lead = tt; links = ticks-behave A 1 (s .table) (ok-sound s o) })
 
-  tick-law : (s : HeadState) (out : List ℕ) → gauge .Ok s → asked s Request.Tick out .reply ≡ 0 → Does 1 false s (asked s Request.Tick out)
+  tick-law : (s : HeadState) (out : List ℕ) → gauge .Ok s → asked s Call.Tick out .reply ≡ 0 → Does 1 false s (asked s Call.Tick out)
   tick-law s out o z =
       let h = s .head in
       let xs = s .table in
-      complying s Request.Tick out o tt
-      (tick-complies s out o (planOf h xs Request.Tick (length out)) (outcome h xs Request.Tick (length out))
-      (ap numberOf (sym (reply-is h xs Request.Tick out)) ∙ z))
+      complying s Call.Tick out o tt
+      (tick-complies s out o (planOf h xs Call.Tick (length out)) (outcome h xs Call.Tick (length out))
+      (ap numberOf (sym (reply-is h xs Call.Tick out)) ∙ z))
 
   -- octets, by what they carry
   octets-law : (kept : Bool) (s : HeadState) (link : ℕ) (out : List ℕ) → gauge .Ok s → (c : Option Message) → Kept A kept c
       → Does 0 kept s (heard s link out c)
   octets-law kept s link out o none k = same o
-  octets-law kept s link out o (some m) k = request-law s (Request.Hear link m) out o tt tt k
+  octets-law kept s link out o (some m) k = request-law s (Call.Hear link m) out o tt tt k
 
   -- from the box, or from another
   box-kept : (c : Option Message) → Kept A (tested (λ m. restartsHead (m .body)) c) c

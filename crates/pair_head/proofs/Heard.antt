@@ -28,7 +28,7 @@ use Rattle.head_survey.specs.declared.Facts.{Facts}
 use Rattle.head_table.specs.Output.{messageOf}
 use Rattle.head_hearing.specs.Hear.{isNewcomer, onLink, inState, isFor, byParty}
 use Rattle.head_judging.specs.Judge.{lookOf}
-use Rattle.head_judging.specs.declared.Request.{Request}
+use Rattle.head_judging.specs.declared.Call.{Call}
 use Rattle.head_calls.specs.Serve.{serveOf}
 use Rattle.head_laws.specs.Calls.{tests, known}
 use Rattle.head_laws.specs.Does.{from}
@@ -53,7 +53,7 @@ group-for h = or-second (eqb 0x0180C2000001 (h .address .0)) true refl
 message-passes : (h : Head) (f : Facts) (link : ℕ) (m : Message) (body : Body) → m .body ≡ body
     → goesToHead body ≡ true → isNewcomer body ≡ false → isHeld (f .link .state) ≡ true
     → m .source ≡ f .link .address → isFor h (m .destination) ≡ true → Valid m
-    → Passed (tests (Request.Hear link m) h f)
+    → Passed (tests (Call.Hear link m) h f)
 unfolding onLink inState byParty
 message-passes h f link m body e b n i a d v =
     let same = eq-eqb (m .source .0) (f .link .address .0) (ap (λ (x : Address). x .0) a) in (
@@ -64,8 +64,8 @@ message-passes h f link m body e b n i a d v =
 -- octets that carry a message of the box, heard on the link of its address
 module _ {out : List ℕ} {s : HeadState} (y : Ready out s) (A : Address) (n : ℕ) (os : List ℕ) (m : Message)
     (c : messageIn os ≡ some m) (a : m .source ≡ A) (d : isFor (s .head) (m .destination) ≡ true) where
-  abbrev r : Request
-  r = Request.Hear n m
+  abbrev r : Call
+  r = Call.Hear n m
 
   abbrev Restarted : Answer HeadState (List ℕ) → Type 0
   Restarted x = Taken out x × RegisteredFor A 62_500_000 (linkAt (x .next) n)

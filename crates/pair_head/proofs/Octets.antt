@@ -9,7 +9,7 @@ use lib.Seq.{take-append-seam, drop-append-seam}
 use Rattle.frame.specs.Layout.{encode}
 use Rattle.frame.specs.declared.Address.{Address}
 use Rattle.frame.specs.declared.Message.{Message}
-use Rattle.head_judging.specs.declared.Request.{Request}
+use Rattle.head_judging.specs.declared.Call.{Call}
 use Rattle.head_calls.specs.Serve.{serveOf}
 use Rattle.head_laws.specs.Frames.{AllValid}
 use Rattle.head_laws.specs.Handed.{callFrames, call-valid, call-frames, call-octets}
@@ -45,7 +45,7 @@ encoded-quiet A [] v q = tt
 encoded-quiet A (m ∷ ms) v q = (ap (tested (callsBox A)) (carries-back m (v .0)) ∙ q .0, encoded-quiet A ms (v .1) (q .1))
 
 -- what a call hands out
-module _ (s : HeadState) (r : Request) (out : List ℕ) (k : RequestTyped r) (c : s .head .count .0 < 2 ^ 32) where
+module _ (s : HeadState) (r : Call) (out : List ℕ) (k : RequestTyped r) (c : s .head .count .0 < 2 ^ 32) where
   abbrev frames : List Message
   frames = callFrames (s .head) (s .table) r out
 

@@ -18,7 +18,7 @@ use Rattle.head_links.specs.declared.Link.{Link}
 use Rattle.head_survey.specs.Facts.{isFew, idleFrom}
 use Rattle.head_judging.specs.Judge.{lookOf}
 use Rattle.head_plans.specs.declared.Plan.{Plan}
-use Rattle.head_judging.specs.declared.Request.{Request}
+use Rattle.head_judging.specs.declared.Call.{Call}
 use Rattle.head_laws.specs.Calls.{tests, planned, known}
 use Rattle.head_laws.specs.Heard.{heard-message}
 use Rattle.head_laws.specs.Numbered.{lowest-idle}
@@ -36,32 +36,32 @@ module _ (A : Address) where
     pub links : AllBehave A loss kept (p .event) 1 xs
 
   -- a request that is no tick, once its tests are passed
-  pub planned-complies : {kept : Bool} (r : Request) (h : Head) (xs : List Link) → isFew (length xs) ≡ true → NotTick r
+  pub planned-complies : {kept : Bool} (r : Call) (h : Head) (xs : List Link) → isFew (length xs) ≡ true → NotTick r
       → Kept A kept (handedIn r) → Passed (tests r h (known xs r)) → Complies 0 kept (planned r h (known xs r)) xs
-  planned-complies {kept} (Request.Open start length sync window) h xs f n k t = record { lead = λ e. refl; links = nothing-behaves A kept 1 xs }
-  planned-complies {kept} (Request.Admit a pending sync) h xs f n k t =
-      let j = known xs (Request.Admit a pending sync) .idle in
-      let e = facts-idle xs (lookOf (Request.Admit a pending sync)) f in
+  planned-complies {kept} (Call.Open start length sync window) h xs f n k t = record { lead = λ e. refl; links = nothing-behaves A kept 1 xs }
+  planned-complies {kept} (Call.Admit a pending sync) h xs f n k t =
+      let j = known xs (Call.Admit a pending sync) .idle in
+      let e = facts-idle xs (lookOf (Call.Admit a pending sync)) f in
       let found : j ≢ 0 = eqb-false j 0 (not-true (eqb j 0) (t .1 .1 .0)) in
       record {
         lead = tt;
         links = changes-behave A kept j _ xs (rw e (lowest-idle 1 xs (λ (z : idleFrom 1 xs ≡ 0). found (e ∙ z)) .idle));
       }
-  planned-complies {kept} (Request.Reject a pending sync) h xs f n k t = record { lead = λ e. refl; links = nothing-behaves A kept 1 xs }
-  planned-complies {kept} (Request.Reregister link sync) h xs f n k t =
-      let e = facts-link xs (lookOf (Request.Reregister link sync)) f in
+  planned-complies {kept} (Call.Reject a pending sync) h xs f n k t = record { lead = λ e. refl; links = nothing-behaves A kept 1 xs }
+  planned-complies {kept} (Call.Reregister link sync) h xs f n k t =
+      let e = facts-link xs (lookOf (Call.Reregister link sync)) f in
       record { lead = tt; links = changes-behave A kept link _ xs (ap (λ (l : Link). isRegistered (l .state)) (sym e) ∙ t .1 .0) }
-  planned-complies {kept} (Request.Deregister link) h xs f n k t = record { lead = tt; links = changes-behave A kept link _ xs tt }
-  planned-complies {kept} (Request.Gate link asked) h xs f n k t =
-      let e = facts-link xs (lookOf (Request.Gate link asked)) f in
+  planned-complies {kept} (Call.Deregister link) h xs f n k t = record { lead = tt; links = changes-behave A kept link _ xs tt }
+  planned-complies {kept} (Call.Gate link asked) h xs f n k t =
+      let e = facts-link xs (lookOf (Call.Gate link asked)) f in
       record { lead = tt; links = changes-behave A kept link _ xs (ap (λ (l : Link). isHeld (l .state)) (sym e) ∙ t .0) }
-  planned-complies {kept} (Request.Hear link m) h xs f n k t =
-      let r = Request.Hear link m in
+  planned-complies {kept} (Call.Hear link m) h xs f n k t =
+      let r = Call.Hear link m in
       let l = known xs r .link in
       let trip : Quanta = record { 0 = roundTrip (h .count .0) (m .timestamp .0) } in
       record {
         lead = subst (Quiet A) (sym (heard-message h l link m (t .1 .0) .lead)) tt;
         links = message-behaves A kept h l link m trip xs (facts-link xs (lookOf r) f) (t .1 .1 .1 .0) k;
       }
-  planned-complies Request.Tick h xs f n k t = absurd n
-  planned-complies (Request.Advance m) h xs f n k t = absurd n
+  planned-complies Call.Tick h xs f n k t = absurd n
+  planned-complies (Call.Advance m) h xs f n k t = absurd n

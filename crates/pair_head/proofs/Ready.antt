@@ -12,7 +12,7 @@ use Rattle.frame.specs.declared.Reply.the-variants.{Done}
 use Rattle.head_state.specs.Head.{soundOf}
 use Rattle.head_survey.specs.Facts.{soundTable}
 use Rattle.head_judging.specs.Judge.{hasRoom}
-use Rattle.head_judging.specs.declared.Request.{Request}
+use Rattle.head_judging.specs.declared.Call.{Call}
 use Rattle.head_calls.specs.Serve.{serveOf}
 use Rattle.head_laws.specs.Calls.{tests, known, allTests}
 use Rattle.head_laws.specs.Refusals.{call-reply}
@@ -35,7 +35,7 @@ passed-done [] t = refl
 passed-done (x unless b ∷ ts) t = rw (t .0) (passed-done ts (t .1))
 
 -- a ready head
-module _ {out : List ℕ} {s : HeadState} (y : Ready out s) (r : Request) where
+module _ {out : List ℕ} {s : HeadState} (y : Ready out s) (r : Call) where
   pub ready-done : Passed (tests r (s .head) (known (s .table) r)) → serveOf (s .head) (s .table) r out .answer .reply ≡ Done
   unfolding hasRoom
   ready-done t =

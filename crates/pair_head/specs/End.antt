@@ -15,7 +15,7 @@ use Rattle.head_links.specs.Link.{isHeld}
 use Rattle.head_links.specs.declared.Link.{Link}
 use Rattle.head_links.specs.declared.State.the-variants.{Waiting, Registered}
 use Rattle.head_survey.specs.Facts.{linkFrom}
-use Rattle.head_judging.specs.declared.Request.{Request}
+use Rattle.head_judging.specs.declared.Call.{Call}
 use Rattle.head_calls.specs.Fresh.{freshOf}
 use Rattle.head_calls.specs.Serve.{Served, serveOf}
 use Rattle.head_laws.specs.Sends.{RequestTyped}
@@ -34,7 +34,7 @@ linkAt s n = linkFrom n 1 (s .table)
 
 -- a request, or octets under a link number, each with the output that it lends
 pub data HeadCall : Type 0 where
-  asks : Request → List ℕ → HeadCall
+  asks : Call → List ℕ → HeadCall
   hears : ℕ → List ℕ → List ℕ → HeadCall
 
 -- what goes with a frame of the box
@@ -56,29 +56,29 @@ answered a =
     }
 
 -- what `serve` promises
-abbrev pub asked : HeadState → Request → List ℕ → Answer HeadState (List ℕ)
+abbrev pub asked : HeadState → Call → List ℕ → Answer HeadState (List ℕ)
 asked s r out = answered (serveOf (s .head) (s .table) r out)
 
 -- octets that carry no message are the reader's to refuse, and reach nothing
 abbrev pub heard : HeadState → ℕ → List ℕ → Option Message → Answer HeadState (List ℕ)
 heard s link out none = record { reply = 1; next = s; sent = [] }
-heard s link out (some m) = asked s (Request.Hear link m) out
+heard s link out (some m) = asked s (Call.Hear link m) out
 
 abbrev pub callOf : HeadState → HeadCall → Answer HeadState (List ℕ)
 callOf s (asks r out) = asked s r out
 callOf s (hears link os out) = heard s link out (messageIn os)
 
 -- the message that a request hands in
-abbrev pub handedIn : Request → Option Message
-handedIn (Request.Open start length sync window) = none
-handedIn (Request.Admit a pending sync) = none
-handedIn (Request.Reject a pending sync) = none
-handedIn (Request.Reregister link sync) = none
-handedIn (Request.Deregister link) = none
-handedIn (Request.Gate link grants) = none
-handedIn (Request.Hear link m) = some m
-handedIn Request.Tick = none
-handedIn (Request.Advance n) = none
+abbrev pub handedIn : Call → Option Message
+handedIn (Call.Open start length sync window) = none
+handedIn (Call.Admit a pending sync) = none
+handedIn (Call.Reject a pending sync) = none
+handedIn (Call.Reregister link sync) = none
+handedIn (Call.Deregister link) = none
+handedIn (Call.Gate link grants) = none
+handedIn (Call.Hear link m) = some m
+handedIn Call.Tick = none
+handedIn (Call.Advance n) = none
 
 -- what `fresh` promises of 1 to 64 links
 abbrev pub Fresh : HeadState → Type 0
@@ -118,7 +118,7 @@ module _ (A : Address) where
         Fair = Fair;
         call = callOf;
         hear = λ s v os. heard s (v .link) (v .output) (messageIn os);
-        tick = λ s out. asked s Request.Tick out;
+        tick = λ s out. asked s Call.Tick out;
         Held = λ s n. HeldLink (linkAt s n);
         Registered = λ s n. RegisteredLink (linkAt s n);
         Waiting = λ s n. linkAt s n .state ≡ Waiting;

@@ -42,14 +42,14 @@ use Rattle.head_links.specs.declared.Link.{Link}
 use Rattle.head_links.proofs.Link.Laws as M-Link
 use Rattle.head_links.proofs.Values.{Link-row, Link-mach, Link-tells, Link-makes}
 use Rattle.head_state.specs.declared.Head.{Head}
-use Rattle.head_judging.specs.declared.Request.{Request}
+use Rattle.head_judging.specs.declared.Call.{Call}
 use Rattle.head_state.proofs.Head.Laws as M-Head
-use Rattle.head_judging.proofs.Request.Laws as M-Request
+use Rattle.head_judging.proofs.Call.Laws as M-Call
 use Rattle.head_calls.specs.Serve.{served, serveOf}
 use Rattle.head_calls.specs.Serve as call
 use Rattle.head_calls.specs.declared.Answer.{Answer}
 use Rattle.head_calls.proofs.Answer.Laws as M-Answer
-use Rattle.head_calls.proofs.Values.{Head-row, Head-mach, Head-tells, Head-makes, Head-typed, Request-row, Request-mach, Request-tells, Request-makes, Request-typed, Answer-row, Answer-mach, Answer-typed}
+use Rattle.head_calls.proofs.Values.{Head-row, Head-mach, Head-tells, Head-makes, Head-typed, Call-row, Call-mach, Call-tells, Call-makes, Call-typed, Answer-row, Answer-mach, Answer-typed}
 use Rattle.head_calls.proofs.serve.Symbol as head-calls-def
 use Rattle.head_calls.proofs.serve.Symbol.{name as #head-calls·serve}
 use Rattle.head_calls.proofs.serve.Met as head-calls-thm
@@ -88,14 +88,14 @@ uref = tyRef erased mut (tyInt w8)
 
 abbrev stayed : Stays (lend.ended .signature .params) (lend.ended .kept)
 stayed =
-    (stay-none (λ _. Head-row) yes, (stay-none (λ _. Table-row) yes, (stay-none (λ _. Request-row) yes, (stay-none (λ _. Octets-row) yes, (stay-none (λ _. usize) yes, tt)))))
+    (stay-none (λ _. Head-row) yes, (stay-none (λ _. Table-row) yes, (stay-none (λ _. Call-row) yes, (stay-none (λ _. Octets-row) yes, (stay-none (λ _. usize) yes, tt)))))
 
 room : Room Link-row 3
 room = (lit< tt, lit< tt)
 
-module _ {M : Type 1} (𝓤 : URA M) (H : Heap 𝓤) (A : Atoms 𝓤) (W : Given 𝓤 H A) (mem : Memory → SProp 𝓤) (run : Routine → Fun 𝓤) (h : Head) (gh : Is Head-row h (Head-mach h ∷ [])) (xs : List Link) (gx : Is Table-row xs (Table-mach xs ∷ [])) (req : Request) (gr : Is Request-row req (Request-mach req ∷ [])) (os : List ℕ) (go : Is Octets-row os (Octets-mach os ∷ [])) (k : ℕ) (gk : k < 2 ^ 64) (few : k ≤ 180) where
+module _ {M : Type 1} (𝓤 : URA M) (H : Heap 𝓤) (A : Atoms 𝓤) (W : Given 𝓤 H A) (mem : Memory → SProp 𝓤) (run : Routine → Fun 𝓤) (h : Head) (gh : Is Head-row h (Head-mach h ∷ [])) (xs : List Link) (gx : Is Table-row xs (Table-mach xs ∷ [])) (req : Call) (gr : Is Call-row req (Call-mach req ∷ [])) (os : List ℕ) (go : Is Octets-row os (Octets-mach os ∷ [])) (k : ℕ) (gk : k < 2 ^ 64) (few : k ≤ 180) where
   abbrev at : Vals lend.signature tt
-  at = (Head-mach h ∷ [], (Table-mach xs ∷ [], (Request-mach req ∷ [], (Octets-mach os ∷ [], (vint w64 k ∷ [], tt)))))
+  at = (Head-mach h ∷ [], (Table-mach xs ∷ [], (Call-mach req ∷ [], (Octets-mach os ∷ [], (vint w64 k ∷ [], tt)))))
 
   abbrev Post : Val → SProp 𝓤
   Post = walkOf 𝓤 H A lend.ended stayed (lend.clauses 𝓤 H A mem run) .post ((tt, tt, tt, (h, (xs, (req, (os, (k, tt))))), at), tt)
@@ -118,7 +118,7 @@ module _ {M : Type 1} (𝓤 : URA M) (H : Heap 𝓤) (A : Atoms 𝓤) (W : Given
       qed W [] ∵ suffices ! _ (ends-at 𝓤 H A lend.ended stayed (lend.clauses 𝓤 H A mem run) W ((tt, tt, tt, (h, (xs, (req, (os, (k, tt))))), at), tt) (Served-mach r) r (tt, (tt, (tt, (tt, (tt, tt))))) (tt, (tt, (tt, (tt, (tt, tt)))))) $ says ! e $
       owned ! Served-row (Is Served-row) (Served-makes 𝓤 H A) r _ is $ nothing ! $
       owned ! usize (Is usize) (uint-makes 𝓤 H A W w64) k _ (refl, gk) $ fjoin ! $ owned ! Octets-row (Is Octets-row) (Octets-makes 𝓤 H A W) os _ go $ fjoin ! $
-      owned ! Request-row (Is Request-row) (Request-makes 𝓤 H A) req _ gr $ fjoin ! $ owned ! Table-row (Is Table-row) (Table-makes 𝓤 H A W) xs _ gx $ fjoin ! $
+      owned ! Call-row (Is Call-row) (Call-makes 𝓤 H A) req _ gr $ fjoin ! $ owned ! Table-row (Is Table-row) (Table-makes 𝓤 H A W) xs _ gx $ fjoin ! $
       owned ! Head-row (Is Head-row) (Head-makes 𝓤 H A) h _ gh $ fjoin ! $ nothing ! $ done !
 
   module _ (𝓣 : Tables 𝓤 H) (known-serve : Triple 𝓤 (𝓣 .C #head-calls·serve) (Serve 𝓤 H A mem run)) (known-hand-back : Triple 𝓤 (𝓣 .C #desk-table·hand-back) (HandBack 𝓤 H A mem run)) (l₀ l₁ l₂ l₃ l₄ l₅ l₆ l₇ l₈ l₉ l₁₀ l₁₁ l₁₂ l₁₃ l₁₄ : ℕ) where
@@ -132,11 +132,11 @@ module _ {M : Type 1} (𝓤 : URA M) (H : Heap 𝓤) (A : Atoms 𝓤) (W : Given
     fm = fmOf 𝓤 H (W .laws) 𝓣
 
     abbrev E : Env 𝓤 H
-    E = (M-Served.mir, l₀) ∷ (M-Head.mir, l₁) ∷ (table, l₂) ∷ (M-Request.mir, l₃) ∷ (octets, l₄) ∷ (tyInt w64, l₅) ∷ (table, l₆) ∷ (octets, l₇) ∷ (M-Answer.mir, l₈) ∷ (tref, l₉) ∷ (sliceTy lref, l₁₀) ∷ (oref, l₁₁) ∷ (sliceTy uref, l₁₂) ∷ (table, l₁₃) ∷ (octets, l₁₄) ∷ []
+    E = (M-Served.mir, l₀) ∷ (M-Head.mir, l₁) ∷ (table, l₂) ∷ (M-Call.mir, l₃) ∷ (octets, l₄) ∷ (tyInt w64, l₅) ∷ (table, l₆) ∷ (octets, l₇) ∷ (M-Answer.mir, l₈) ∷ (tref, l₉) ∷ (sliceTy lref, l₁₀) ∷ (oref, l₁₁) ∷ (sliceTy uref, l₁₂) ∷ (table, l₁₃) ∷ (octets, l₁₄) ∷ []
 
     -- the parameters, and room for the answer
     abbrev Given-in : List (Item 𝓤)
-    Given-in = ‵ (fat fullShare (tyInt w64) l₅ 0 (vint w64 k)) ∷ ‵ (fdies (tyInt w64) l₅) ∷ ‵ (fat fullShare octets l₄ 0 (Octets-mach os)) ∷ ‵ (fdies octets l₄) ∷ ‵ (fat fullShare M-Request.mir l₃ 0 (Request-mach req)) ∷ ‵ (fdies M-Request.mir l₃) ∷ ‵ (fat fullShare table l₂ 0 (Table-mach xs)) ∷ ‵ (fdies table l₂) ∷ ‵ (fat fullShare M-Head.mir l₁ 0 (Head-mach h)) ∷ ‵ (fdies M-Head.mir l₁) ∷ ‵ (froom M-Served.mir l₀ 0) ∷ ‵ (fdies M-Served.mir l₀) ∷ []
+    Given-in = ‵ (fat fullShare (tyInt w64) l₅ 0 (vint w64 k)) ∷ ‵ (fdies (tyInt w64) l₅) ∷ ‵ (fat fullShare octets l₄ 0 (Octets-mach os)) ∷ ‵ (fdies octets l₄) ∷ ‵ (fat fullShare M-Call.mir l₃ 0 (Call-mach req)) ∷ ‵ (fdies M-Call.mir l₃) ∷ ‵ (fat fullShare table l₂ 0 (Table-mach xs)) ∷ ‵ (fdies table l₂) ∷ ‵ (fat fullShare M-Head.mir l₁ 0 (Head-mach h)) ∷ ‵ (fdies M-Head.mir l₁) ∷ ‵ (froom M-Served.mir l₀ 0) ∷ ‵ (fdies M-Served.mir l₀) ∷ []
 
     -- both locals are copied
     abbrev Copied : List (Item 𝓤)
@@ -184,11 +184,11 @@ module _ {M : Type 1} (𝓤 : URA M) (H : Heap 𝓤) (A : Atoms 𝓤) (W : Given
         ends a zs (zs′ ++ dropped k os) (is-now Answer-row Answer-mach a w (e .value) (e .is)) is is′ (is-whole a zs zs′ (e .says)))))))))))
 
   module _ (𝓣 : Tables 𝓤 H) (known-serve : Triple 𝓤 (𝓣 .C #head-calls·serve) (Serve 𝓤 H A mem run)) (known-hand-back : Triple 𝓤 (𝓣 .C #desk-table·hand-back) (HandBack 𝓤 H A mem run)) where
-    walk : ent 𝓤 (onEntry 𝓤 H A lend.signature tt tt (h, (xs, (req, (os, (k, tt))))) at) (WpFn 𝓤 H (𝓣 .C) (𝓣 .Λ) code.function (Head-mach h ∷ Table-mach xs ∷ Request-mach req ∷ Octets-mach os ∷ vint w64 k ∷ []) Post)
+    walk : ent 𝓤 (onEntry 𝓤 H A lend.signature tt tt (h, (xs, (req, (os, (k, tt))))) at) (WpFn 𝓤 H (𝓣 .C) (𝓣 .Λ) code.function (Head-mach h ∷ Table-mach xs ∷ Call-mach req ∷ Octets-mach os ∷ vint w64 k ∷ []) Post)
     walk =
-        qed W (‵ ftrue ∷ ‵ (owns (Head-row ∷ Table-row ∷ Request-row ∷ Octets-row ∷ usize ∷ []) (h, (xs, (req, (os, (k, tt))))) at) ∷ []) ∵ drop ! $ drop ! $ enter ! (𝓣 .C) (𝓣 .Λ) code.function (Head-mach h ∷ Table-mach xs ∷ Request-mach req ∷ Octets-mach os ∷ vint w64 k ∷ []) _ $
+        qed W (‵ ftrue ∷ ‵ (owns (Head-row ∷ Table-row ∷ Call-row ∷ Octets-row ∷ usize ∷ []) (h, (xs, (req, (os, (k, tt))))) at) ∷ []) ∵ drop ! $ drop ! $ enter ! (𝓣 .C) (𝓣 .Λ) code.function (Head-mach h ∷ Table-mach xs ∷ Call-mach req ∷ Octets-mach os ∷ vint w64 k ∷ []) _ $
         alloc1 ! (λ l₀. alloc1 ! (λ l₁. alloc1 ! (λ l₂. alloc1 ! (λ l₃. alloc1 ! (λ l₄. alloc1 ! (λ l₅. alloc1 ! (λ l₆. alloc1 ! (λ l₇. alloc1 ! (λ l₈. alloc1 ! (λ l₉. alloc1 ! (λ l₁₀. alloc1 ! (λ l₁₁. alloc1 ! (λ l₁₂. alloc1 ! (λ l₁₃. alloc1 ! (λ l₁₄. alloc0 ! $ params1 ! $
-        pass1 ! (init ! 26 refl (Head-typed 𝓤 H A W h _ gh)) $ pass1 ! (init ! 24 refl (Table-typed 𝓤 H A W xs _ gx)) $ pass1 ! (init ! 22 refl (Request-typed 𝓤 H A W req _ gr)) $ pass1 ! (init ! 20 refl (Octets-typed 𝓤 H A W os _ go)) $ pass1 ! (init ! 18 refl (tt, record { fits = gk })) $ pass0 ! $
+        pass1 ! (init ! 26 refl (Head-typed 𝓤 H A W h _ gh)) $ pass1 ! (init ! 24 refl (Table-typed 𝓤 H A W xs _ gx)) $ pass1 ! (init ! 22 refl (Call-typed 𝓤 H A W req _ gr)) $ pass1 ! (init ! 20 refl (Octets-typed 𝓤 H A W os _ go)) $ pass1 ! (init ! 18 refl (tt, record { fits = gk })) $ pass0 ! $
         assigns ! (of-opd ! (load ! (from ! (stop !)) (look ! 24 refl))) (from ! (stop !)) (init ! 16 refl (Table-typed 𝓤 H A W xs _ gx)) $
         assigns ! (of-opd ! (load ! (from ! (stop !)) (look ! 20 refl))) (from ! (stop !)) (init ! 14 refl (Octets-typed 𝓤 H A W os _ go)) $
         lends 𝓣 known-serve known-hand-back l₀ l₁ l₂ l₃ l₄ l₅ l₆ l₇ l₈ l₉ l₁₀ l₁₁ l₁₂ l₁₃ l₁₄)))))))))))))))
@@ -196,13 +196,13 @@ module _ {M : Type 1} (𝓤 : URA M) (H : Heap 𝓤) (A : Atoms 𝓤) (W : Given
 module _ {M : Type 1} (𝓤 : URA M) (H : Heap 𝓤) (A : Atoms 𝓤) (W : Given 𝓤 H A) (mem : Memory → SProp 𝓤) (run : Routine → Fun 𝓤) (𝓣 : Tables 𝓤 H) (known-serve : Triple 𝓤 (𝓣 .C #head-calls·serve) (Serve 𝓤 H A mem run)) (known-hand-back : Triple 𝓤 (𝓣 .C #desk-table·hand-back) (HandBack 𝓤 H A mem run)) where
   lend-walks : Walks 𝓤 H A lend.ended stayed (WpFn 𝓤 H (𝓣 .C) (𝓣 .Λ) code.function) (lend.clauses 𝓤 H A mem run)
   lend-walks = walked 𝓤 H A lend.ended stayed (lend.clauses 𝓤 H A mem run) (WpFn 𝓤 H (𝓣 .C) (𝓣 .Λ) code.function)
-      (λ κs. ((λ t. Head-mach t ∷ []), ((λ t. Table-mach t ∷ []), ((λ t. Request-mach t ∷ []), ((λ t. Octets-mach t ∷ []), (uint-vals w64, tt)))))) (λ κs. (Head-tells, (Table-tells, (Request-tells, (Octets-tells, (uint-tells w64, tt))))))
+      (λ κs. ((λ t. Head-mach t ∷ []), ((λ t. Table-mach t ∷ []), ((λ t. Call-mach t ∷ []), ((λ t. Octets-mach t ∷ []), (uint-vals w64, tt)))))) (λ κs. (Head-tells, (Table-tells, (Call-tells, (Octets-tells, (uint-tells w64, tt))))))
       (λ κs qs bounds a g are. needs 𝓤 (a .1 .1 .1 .1 .0 ≤ 180) _ (λ few.
       walk 𝓤 H A W mem run (a .0) (are .0) (a .1 .0) (are .1 .0) (a .1 .1 .0) (are .1 .1 .0) (a .1 .1 .1 .0) (are .1 .1 .1 .0) (a .1 .1 .1 .1 .0) (are .1 .1 .1 .1 .0 .1) few 𝓣 known-serve known-hand-back))
 
   lend-meets : Meets 𝓤 H A lend.signature (WpFn 𝓤 H (𝓣 .C) (𝓣 .Λ) code.function) (lend.spec 𝓤 H A mem run)
   lend-meets = walk-meets 𝓤 H A lend.ended stayed W
-      (goes-none 𝓤 H A W 0 (λ _. Head-row) yes (λ κs x f. refl), (goes-none 𝓤 H A W 0 (λ _. Table-row) yes (λ κs x f. refl), (goes-none 𝓤 H A W 0 (λ _. Request-row) yes (λ κs x f. refl), (goes-none 𝓤 H A W 0 (λ _. Octets-row) yes (λ κs x f. refl), (goes-none 𝓤 H A W 0 (λ _. usize) yes (λ κs x f. refl), tt))))) (lend.clauses 𝓤 H A mem run)
+      (goes-none 𝓤 H A W 0 (λ _. Head-row) yes (λ κs x f. refl), (goes-none 𝓤 H A W 0 (λ _. Table-row) yes (λ κs x f. refl), (goes-none 𝓤 H A W 0 (λ _. Call-row) yes (λ κs x f. refl), (goes-none 𝓤 H A W 0 (λ _. Octets-row) yes (λ κs x f. refl), (goes-none 𝓤 H A W 0 (λ _. usize) yes (λ κs x f. refl), tt))))) (lend.clauses 𝓤 H A mem run)
       (WpFn 𝓤 H (𝓣 .C) (𝓣 .Λ) code.function) (WpFn-mono 𝓤 H (W .laws) 𝓣 code.function) lend-walks
 
 pub lend-spec : {M : Type 1} → stated.statement M

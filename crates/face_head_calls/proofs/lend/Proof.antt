@@ -41,13 +41,13 @@ use Rattle.lent.proofs.Sharing.{shares, unshared}
 use Rattle.head_links.specs.declared.Link.{Link}
 use Rattle.head_links.proofs.Values.{Link-row}
 use Rattle.head_state.specs.declared.Head.{Head}
-use Rattle.head_judging.specs.declared.Request.{Request}
+use Rattle.head_judging.specs.declared.Call.{Call}
 use Rattle.head_state.proofs.Head.Laws as M-Head
-use Rattle.head_judging.proofs.Request.Laws as M-Request
+use Rattle.head_judging.proofs.Call.Laws as M-Call
 use Rattle.head_calls.specs.Serve.{Served, served, serveOf}
 use Rattle.head_calls.specs.declared.Answer.{Answer}
 use Rattle.head_calls.proofs.Answer.Laws as M-Answer
-use Rattle.head_calls.proofs.Values.{Head-row, Head-mach, Head-tells, Head-makes, Head-typed, Request-row, Request-mach, Request-tells, Request-makes, Request-typed, Answer-row, Answer-mach, Answer-makes, Answer-typed}
+use Rattle.head_calls.proofs.Values.{Head-row, Head-mach, Head-tells, Head-makes, Head-typed, Call-row, Call-mach, Call-tells, Call-makes, Call-typed, Answer-row, Answer-mach, Answer-makes, Answer-typed}
 use Rattle.face_head.specs.Table.{loaded, stored}
 use Rattle.face_head_calls.specs.Lend.{keptOf, lendLeft, lendOf}
 use Rattle.face_head_calls.proofs.Values.{is-now}
@@ -96,9 +96,9 @@ abbrev oref : Ty
 oref = tyRef erased mut (tyInt w8)
 
 abbrev stayed : Stays (lend.ended .signature .params) (lend.ended .kept)
-stayed = (stay-none (λ _. Head-row) yes, (stay-slice (0 ∷ []) tt (plain (λ _. u64)), (stay-slice (1 ∷ []) tt (plain (λ _. Link-row)), (stay-none (λ _. Request-row) yes, (stay-slice (2 ∷ []) tt (plain (λ _. u8)), tt)))))
+stayed = (stay-none (λ _. Head-row) yes, (stay-slice (0 ∷ []) tt (plain (λ _. u64)), (stay-slice (1 ∷ []) tt (plain (λ _. Link-row)), (stay-none (λ _. Call-row) yes, (stay-slice (2 ∷ []) tt (plain (λ _. u8)), tt)))))
 
-module _ {M : Type 1} (𝓤 : URA M) (H : Heap 𝓤) (A : Atoms 𝓤) (W : Given 𝓤 H A) (mem : Memory → SProp 𝓤) (run : Routine → Fun 𝓤) (κ κ′ κ″ : Lft) (q q′ q″ : Share) (h : Head) (gh : Is Head-row h (Head-mach h ∷ [])) (b o : ℕ) (γ : GName) (ws : List ℕ) (b′ o′ : ℕ) (γ′ : GName) (xs : List Link) (req : Request) (gr : Is Request-row req (Request-mach req ∷ [])) (b″ o″ : ℕ) (γ″ : GName) (os : List ℕ) where
+module _ {M : Type 1} (𝓤 : URA M) (H : Heap 𝓤) (A : Atoms 𝓤) (W : Given 𝓤 H A) (mem : Memory → SProp 𝓤) (run : Routine → Fun 𝓤) (κ κ′ κ″ : Lft) (q q′ q″ : Share) (h : Head) (gh : Is Head-row h (Head-mach h ∷ [])) (b o : ℕ) (γ : GName) (ws : List ℕ) (b′ o′ : ℕ) (γ′ : GName) (xs : List Link) (req : Call) (gr : Is Call-row req (Call-mach req ∷ [])) (b″ o″ : ℕ) (γ″ : GName) (os : List ℕ) where
   abbrev n : ℕ
   n = length ws
 
@@ -118,7 +118,7 @@ module _ {M : Type 1} (𝓤 : URA M) (H : Heap 𝓤) (A : Atoms 𝓤) (W : Given
   s″ = sliceVal (b″, o″) k
 
   abbrev at : Vals lend.signature (κ, (κ′, (κ″, tt)))
-  at = (Head-mach h ∷ [], (s ∷ [], (s′ ∷ [], (Request-mach req ∷ [], (s″ ∷ [], tt)))))
+  at = (Head-mach h ∷ [], (s ∷ [], (s′ ∷ [], (Call-mach req ∷ [], (s″ ∷ [], tt)))))
 
   abbrev bound : walkOf 𝓤 H A lend.ended stayed (lend.clauses 𝓤 H A mem run) .Ghost
   bound = (((κ, (κ′, (κ″, tt))), (q, (q′, (q″, tt))), tt, (h, (at-list b o γ ws, (at-list b′ o′ γ′ xs, (req, (at-list b″ o″ γ″ os, tt))))), at), tt)
@@ -141,7 +141,7 @@ module _ {M : Type 1} (𝓤 : URA M) (H : Heap 𝓤) (A : Atoms 𝓤) (W : Given
       qed W (Held us ys os′ []) ∵
       suffices ! _ (ends-at 𝓤 H A lend.ended stayed (lend.clauses 𝓤 H A mem run) W bound (Answer-mach a) a (tt, (us, (ys, (tt, (os′, tt))))) (tt, (l, (l′, (tt, (l″, tt)))))) $ says ! e $
       nothing ! $ move ! (6 ∷ 0 ∷ []) $ join ! $ move ! (4 ∷ 0 ∷ []) $ join ! $ move ! (2 ∷ 0 ∷ []) $ join ! $ frame ! $
-      nothing ! $ move ! (3 ∷ 0 ∷ []) $ fjoin ! $ owned ! Request-row (Is Request-row) (Request-makes 𝓤 H A) req _ gr $ fjoin ! $ move ! (2 ∷ 0 ∷ []) $ fjoin ! $ move ! (1 ∷ 0 ∷ []) $ fjoin ! $ owned ! Head-row (Is Head-row) (Head-makes 𝓤 H A) h _ gh $ fjoin ! $ frame ! $ owned ! Answer-row (Is Answer-row) (Answer-makes 𝓤 H A) a _ is $ done !
+      nothing ! $ move ! (3 ∷ 0 ∷ []) $ fjoin ! $ owned ! Call-row (Is Call-row) (Call-makes 𝓤 H A) req _ gr $ fjoin ! $ move ! (2 ∷ 0 ∷ []) $ fjoin ! $ move ! (1 ∷ 0 ∷ []) $ fjoin ! $ owned ! Head-row (Is Head-row) (Head-makes 𝓤 H A) h _ gh $ fjoin ! $ frame ! $ owned ! Answer-row (Is Answer-row) (Answer-makes 𝓤 H A) a _ is $ done !
 
   module _ (𝓣 : Tables 𝓤 H) (known-load-links : Triple 𝓤 (𝓣 .C #face-head·load-links) (LoadLinks 𝓤 H A mem run)) (known-serve : Triple 𝓤 (𝓣 .C #head-calls·serve) (Serve 𝓤 H A mem run)) (known-kept : Triple 𝓤 (𝓣 .C #face-head-calls·kept) (Kept 𝓤 H A mem run)) (known-store-links : Triple 𝓤 (𝓣 .C #face-head·store-links) (StoreLinks 𝓤 H A mem run)) (room : Room u64 n) (room′ : Room Link-row m) (room″ : Room u8 k) (l₀ l₁ l₂ l₃ l₄ l₅ l₆ l₇ l₈ l₉ l₁₀ l₁₁ l₁₂ l₁₃ l₁₄ l₁₅ l₁₆ l₁₇ l₁₈ l₁₉ l₂₀ l₂₁ : ℕ) where
     abbrev C : Calls 𝓤 H
@@ -154,14 +154,14 @@ module _ {M : Type 1} (𝓤 : URA M) (H : Heap 𝓤) (A : Atoms 𝓤) (W : Given
     fm = fmOf 𝓤 H (W .laws) 𝓣
 
     abbrev E : Env 𝓤 H
-    E = (M-Answer.mir, l₀) ∷ (M-Head.mir, l₁) ∷ (words, l₂) ∷ (links, l₃) ∷ (M-Request.mir, l₄) ∷ (octets, l₅) ∷ (M-Answer.mir, l₆) ∷ (tyUnit, l₇) ∷ (wlook, l₈) ∷ ((sliceTy wlook), l₉) ∷ (lref, l₁₀) ∷ ((sliceTy lref), l₁₁) ∷ (lref, l₁₂) ∷ ((sliceTy lref), l₁₃) ∷ (oref, l₁₄) ∷ ((sliceTy oref), l₁₅) ∷ (llook, l₁₆) ∷ ((sliceTy llook), l₁₇) ∷ (tyInt w64, l₁₈) ∷ (tyInt w64, l₁₉) ∷ (wref, l₂₀) ∷ ((sliceTy wref), l₂₁) ∷ []
+    E = (M-Answer.mir, l₀) ∷ (M-Head.mir, l₁) ∷ (words, l₂) ∷ (links, l₃) ∷ (M-Call.mir, l₄) ∷ (octets, l₅) ∷ (M-Answer.mir, l₆) ∷ (tyUnit, l₇) ∷ (wlook, l₈) ∷ ((sliceTy wlook), l₉) ∷ (lref, l₁₀) ∷ ((sliceTy lref), l₁₁) ∷ (lref, l₁₂) ∷ ((sliceTy lref), l₁₃) ∷ (oref, l₁₄) ∷ ((sliceTy oref), l₁₅) ∷ (llook, l₁₆) ∷ ((sliceTy llook), l₁₇) ∷ (tyInt w64, l₁₈) ∷ (tyInt w64, l₁₉) ∷ (wref, l₂₀) ∷ ((sliceTy wref), l₂₁) ∷ []
 
     -- the locals where the body begins, and once the call has answered
     abbrev Begun : List (Item 𝓤)
-    Begun = ‵ (froom (sliceTy wref) l₂₁ 0) ∷ ‵ (fdies (sliceTy wref) l₂₁) ∷ ‵ (froom wref l₂₀ 0) ∷ ‵ (fdies wref l₂₀) ∷ ‵ (froom (tyInt w64) l₁₉ 0) ∷ ‵ (fdies (tyInt w64) l₁₉) ∷ ‵ (froom (tyInt w64) l₁₈ 0) ∷ ‵ (fdies (tyInt w64) l₁₈) ∷ ‵ (froom (sliceTy llook) l₁₇ 0) ∷ ‵ (fdies (sliceTy llook) l₁₇) ∷ ‵ (froom llook l₁₆ 0) ∷ ‵ (fdies llook l₁₆) ∷ ‵ (froom (sliceTy oref) l₁₅ 0) ∷ ‵ (fdies (sliceTy oref) l₁₅) ∷ ‵ (froom oref l₁₄ 0) ∷ ‵ (fdies oref l₁₄) ∷ ‵ (froom (sliceTy lref) l₁₃ 0) ∷ ‵ (fdies (sliceTy lref) l₁₃) ∷ ‵ (froom lref l₁₂ 0) ∷ ‵ (fdies lref l₁₂) ∷ ‵ (froom (sliceTy lref) l₁₁ 0) ∷ ‵ (fdies (sliceTy lref) l₁₁) ∷ ‵ (froom lref l₁₀ 0) ∷ ‵ (fdies lref l₁₀) ∷ ‵ (froom (sliceTy wlook) l₉ 0) ∷ ‵ (fdies (sliceTy wlook) l₉) ∷ ‵ (froom wlook l₈ 0) ∷ ‵ (fdies wlook l₈) ∷ ‵ (froom tyUnit l₇ 0) ∷ ‵ (fdies tyUnit l₇) ∷ ‵ (froom M-Answer.mir l₆ 0) ∷ ‵ (fdies M-Answer.mir l₆) ∷ ‵ (fat fullShare octets l₅ 0 s″) ∷ ‵ (fdies octets l₅) ∷ ‵ (fat fullShare M-Request.mir l₄ 0 (Request-mach req)) ∷ ‵ (fdies M-Request.mir l₄) ∷ ‵ (fat fullShare links l₃ 0 s′) ∷ ‵ (fdies links l₃) ∷ ‵ (fat fullShare words l₂ 0 s) ∷ ‵ (fdies words l₂) ∷ ‵ (fat fullShare M-Head.mir l₁ 0 (Head-mach h)) ∷ ‵ (fdies M-Head.mir l₁) ∷ ‵ (froom M-Answer.mir l₀ 0) ∷ ‵ (fdies M-Answer.mir l₀) ∷ []
+    Begun = ‵ (froom (sliceTy wref) l₂₁ 0) ∷ ‵ (fdies (sliceTy wref) l₂₁) ∷ ‵ (froom wref l₂₀ 0) ∷ ‵ (fdies wref l₂₀) ∷ ‵ (froom (tyInt w64) l₁₉ 0) ∷ ‵ (fdies (tyInt w64) l₁₉) ∷ ‵ (froom (tyInt w64) l₁₈ 0) ∷ ‵ (fdies (tyInt w64) l₁₈) ∷ ‵ (froom (sliceTy llook) l₁₇ 0) ∷ ‵ (fdies (sliceTy llook) l₁₇) ∷ ‵ (froom llook l₁₆ 0) ∷ ‵ (fdies llook l₁₆) ∷ ‵ (froom (sliceTy oref) l₁₅ 0) ∷ ‵ (fdies (sliceTy oref) l₁₅) ∷ ‵ (froom oref l₁₄ 0) ∷ ‵ (fdies oref l₁₄) ∷ ‵ (froom (sliceTy lref) l₁₃ 0) ∷ ‵ (fdies (sliceTy lref) l₁₃) ∷ ‵ (froom lref l₁₂ 0) ∷ ‵ (fdies lref l₁₂) ∷ ‵ (froom (sliceTy lref) l₁₁ 0) ∷ ‵ (fdies (sliceTy lref) l₁₁) ∷ ‵ (froom lref l₁₀ 0) ∷ ‵ (fdies lref l₁₀) ∷ ‵ (froom (sliceTy wlook) l₉ 0) ∷ ‵ (fdies (sliceTy wlook) l₉) ∷ ‵ (froom wlook l₈ 0) ∷ ‵ (fdies wlook l₈) ∷ ‵ (froom tyUnit l₇ 0) ∷ ‵ (fdies tyUnit l₇) ∷ ‵ (froom M-Answer.mir l₆ 0) ∷ ‵ (fdies M-Answer.mir l₆) ∷ ‵ (fat fullShare octets l₅ 0 s″) ∷ ‵ (fdies octets l₅) ∷ ‵ (fat fullShare M-Call.mir l₄ 0 (Call-mach req)) ∷ ‵ (fdies M-Call.mir l₄) ∷ ‵ (fat fullShare links l₃ 0 s′) ∷ ‵ (fdies links l₃) ∷ ‵ (fat fullShare words l₂ 0 s) ∷ ‵ (fdies words l₂) ∷ ‵ (fat fullShare M-Head.mir l₁ 0 (Head-mach h)) ∷ ‵ (fdies M-Head.mir l₁) ∷ ‵ (froom M-Answer.mir l₀ 0) ∷ ‵ (fdies M-Answer.mir l₀) ∷ []
 
     abbrev Answered : Answer → List (Item 𝓤)
-    Answered a = ‵ (froom (sliceTy wref) l₂₁ 0) ∷ ‵ (fdies (sliceTy wref) l₂₁) ∷ ‵ (froom wref l₂₀ 0) ∷ ‵ (fdies wref l₂₀) ∷ ‵ (froom (tyInt w64) l₁₉ 0) ∷ ‵ (fdies (tyInt w64) l₁₉) ∷ ‵ (froom (tyInt w64) l₁₈ 0) ∷ ‵ (fdies (tyInt w64) l₁₈) ∷ ‵ (froom (sliceTy llook) l₁₇ 0) ∷ ‵ (fdies (sliceTy llook) l₁₇) ∷ ‵ (froom llook l₁₆ 0) ∷ ‵ (fdies llook l₁₆) ∷ ‵ (froom (sliceTy oref) l₁₅ 0) ∷ ‵ (fdies (sliceTy oref) l₁₅) ∷ ‵ (froom oref l₁₄ 0) ∷ ‵ (fdies oref l₁₄) ∷ ‵ (froom (sliceTy lref) l₁₃ 0) ∷ ‵ (fdies (sliceTy lref) l₁₃) ∷ ‵ (froom lref l₁₂ 0) ∷ ‵ (fdies lref l₁₂) ∷ ‵ (froom (sliceTy lref) l₁₁ 0) ∷ ‵ (fdies (sliceTy lref) l₁₁) ∷ ‵ (froom lref l₁₀ 0) ∷ ‵ (fdies lref l₁₀) ∷ ‵ (froom (sliceTy wlook) l₉ 0) ∷ ‵ (fdies (sliceTy wlook) l₉) ∷ ‵ (froom wlook l₈ 0) ∷ ‵ (fdies wlook l₈) ∷ ‵ (froom tyUnit l₇ 0) ∷ ‵ (fdies tyUnit l₇) ∷ ‵ (fat fullShare M-Answer.mir l₆ 0 (Answer-mach a)) ∷ ‵ (fdies M-Answer.mir l₆) ∷ ‵ (fat fullShare octets l₅ 0 s″) ∷ ‵ (fdies octets l₅) ∷ ‵ (fat fullShare M-Request.mir l₄ 0 (Request-mach req)) ∷ ‵ (fdies M-Request.mir l₄) ∷ ‵ (fat fullShare links l₃ 0 s′) ∷ ‵ (fdies links l₃) ∷ ‵ (fat fullShare words l₂ 0 s) ∷ ‵ (fdies words l₂) ∷ ‵ (fat fullShare M-Head.mir l₁ 0 (Head-mach h)) ∷ ‵ (fdies M-Head.mir l₁) ∷ ‵ (froom M-Answer.mir l₀ 0) ∷ ‵ (fdies M-Answer.mir l₀) ∷ []
+    Answered a = ‵ (froom (sliceTy wref) l₂₁ 0) ∷ ‵ (fdies (sliceTy wref) l₂₁) ∷ ‵ (froom wref l₂₀ 0) ∷ ‵ (fdies wref l₂₀) ∷ ‵ (froom (tyInt w64) l₁₉ 0) ∷ ‵ (fdies (tyInt w64) l₁₉) ∷ ‵ (froom (tyInt w64) l₁₈ 0) ∷ ‵ (fdies (tyInt w64) l₁₈) ∷ ‵ (froom (sliceTy llook) l₁₇ 0) ∷ ‵ (fdies (sliceTy llook) l₁₇) ∷ ‵ (froom llook l₁₆ 0) ∷ ‵ (fdies llook l₁₆) ∷ ‵ (froom (sliceTy oref) l₁₅ 0) ∷ ‵ (fdies (sliceTy oref) l₁₅) ∷ ‵ (froom oref l₁₄ 0) ∷ ‵ (fdies oref l₁₄) ∷ ‵ (froom (sliceTy lref) l₁₃ 0) ∷ ‵ (fdies (sliceTy lref) l₁₃) ∷ ‵ (froom lref l₁₂ 0) ∷ ‵ (fdies lref l₁₂) ∷ ‵ (froom (sliceTy lref) l₁₁ 0) ∷ ‵ (fdies (sliceTy lref) l₁₁) ∷ ‵ (froom lref l₁₀ 0) ∷ ‵ (fdies lref l₁₀) ∷ ‵ (froom (sliceTy wlook) l₉ 0) ∷ ‵ (fdies (sliceTy wlook) l₉) ∷ ‵ (froom wlook l₈ 0) ∷ ‵ (fdies wlook l₈) ∷ ‵ (froom tyUnit l₇ 0) ∷ ‵ (fdies tyUnit l₇) ∷ ‵ (fat fullShare M-Answer.mir l₆ 0 (Answer-mach a)) ∷ ‵ (fdies M-Answer.mir l₆) ∷ ‵ (fat fullShare octets l₅ 0 s″) ∷ ‵ (fdies octets l₅) ∷ ‵ (fat fullShare M-Call.mir l₄ 0 (Call-mach req)) ∷ ‵ (fdies M-Call.mir l₄) ∷ ‵ (fat fullShare links l₃ 0 s′) ∷ ‵ (fdies links l₃) ∷ ‵ (fat fullShare words l₂ 0 s) ∷ ‵ (fdies words l₂) ∷ ‵ (fat fullShare M-Head.mir l₁ 0 (Head-mach h)) ∷ ‵ (fdies M-Head.mir l₁) ∷ ‵ (froom M-Answer.mir l₀ 0) ∷ ‵ (fdies M-Answer.mir l₀) ∷ []
 
     -- the links are laid back in the words
     lays : (a : Answer) (ys : List Link) (os′ : List ℕ) → Is Answer-row a (Answer-mach a ∷ []) → length ys ≡ m → length os′ ≡ k → ((us : List ℕ) → us ≡ stored ys (keptOf a m) ws → lendLeft a us os′ ≡ lendOf h ws xs req os)
@@ -222,11 +222,11 @@ module _ {M : Type 1} (𝓤 : URA M) (H : Heap 𝓤) (A : Atoms 𝓤) (W : Given
         calls zs (e .as-long) (e .says)))))))
 
   module _ (𝓣 : Tables 𝓤 H) (known-load-links : Triple 𝓤 (𝓣 .C #face-head·load-links) (LoadLinks 𝓤 H A mem run)) (known-serve : Triple 𝓤 (𝓣 .C #head-calls·serve) (Serve 𝓤 H A mem run)) (known-kept : Triple 𝓤 (𝓣 .C #face-head-calls·kept) (Kept 𝓤 H A mem run)) (known-store-links : Triple 𝓤 (𝓣 .C #face-head·store-links) (StoreLinks 𝓤 H A mem run)) where
-    walk : Room u64 n → Room Link-row m → Room u8 k → ent 𝓤 (onEntry 𝓤 H A lend.signature (κ, (κ′, (κ″, tt))) (q, (q′, (q″, tt))) (h, (at-list b o γ ws, (at-list b′ o′ γ′ xs, (req, (at-list b″ o″ γ″ os, tt))))) at) (WpFn 𝓤 H (𝓣 .C) (𝓣 .Λ) code.function (Head-mach h ∷ s ∷ s′ ∷ Request-mach req ∷ s″ ∷ []) Post)
+    walk : Room u64 n → Room Link-row m → Room u8 k → ent 𝓤 (onEntry 𝓤 H A lend.signature (κ, (κ′, (κ″, tt))) (q, (q′, (q″, tt))) (h, (at-list b o γ ws, (at-list b′ o′ γ′ xs, (req, (at-list b″ o″ γ″ os, tt))))) at) (WpFn 𝓤 H (𝓣 .C) (𝓣 .Λ) code.function (Head-mach h ∷ s ∷ s′ ∷ Call-mach req ∷ s″ ∷ []) Post)
     walk room room′ room″ =
-        qed W ((‵ (flft κ q) ⊛ ‵ (flft κ′ q′) ⊛ ‵ (flft κ″ q″) ⊛ ‵ ftrue) ∷ ‵ (owns (Head-row ∷ MutSlice (named 0) κ u64 ∷ MutSlice (named 1) κ′ Link-row ∷ Request-row ∷ MutSlice (named 2) κ″ u8 ∷ []) (h, (at-list b o γ ws, (at-list b′ o′ γ′ xs, (req, (at-list b″ o″ γ″ os, tt))))) at) ∷ []) ∵ enter ! (𝓣 .C) (𝓣 .Λ) code.function (Head-mach h ∷ s ∷ s′ ∷ Request-mach req ∷ s″ ∷ []) _ $
+        qed W ((‵ (flft κ q) ⊛ ‵ (flft κ′ q′) ⊛ ‵ (flft κ″ q″) ⊛ ‵ ftrue) ∷ ‵ (owns (Head-row ∷ MutSlice (named 0) κ u64 ∷ MutSlice (named 1) κ′ Link-row ∷ Call-row ∷ MutSlice (named 2) κ″ u8 ∷ []) (h, (at-list b o γ ws, (at-list b′ o′ γ′ xs, (req, (at-list b″ o″ γ″ os, tt))))) at) ∷ []) ∵ enter ! (𝓣 .C) (𝓣 .Λ) code.function (Head-mach h ∷ s ∷ s′ ∷ Call-mach req ∷ s″ ∷ []) _ $
         alloc1 ! (λ l₀. alloc1 ! (λ l₁. alloc1 ! (λ l₂. alloc1 ! (λ l₃. alloc1 ! (λ l₄. alloc1 ! (λ l₅. alloc1 ! (λ l₆. alloc1 ! (λ l₇. alloc1 ! (λ l₈. alloc1 ! (λ l₉. alloc1 ! (λ l₁₀. alloc1 ! (λ l₁₁. alloc1 ! (λ l₁₂. alloc1 ! (λ l₁₃. alloc1 ! (λ l₁₄. alloc1 ! (λ l₁₅. alloc1 ! (λ l₁₆. alloc1 ! (λ l₁₇. alloc1 ! (λ l₁₈. alloc1 ! (λ l₁₉. alloc1 ! (λ l₂₀. alloc1 ! (λ l₂₁. alloc0 ! $ params1 ! $
-        pass1 ! (init ! 40 refl (Head-typed 𝓤 H A W h _ gh)) $ pass1 ! (init ! 38 refl (tt, (tt, (record { fits = room .0 }, tt)))) $ pass1 ! (init ! 36 refl (tt, (tt, (record { fits = room′ .0 }, tt)))) $ pass1 ! (init ! 34 refl (Request-typed 𝓤 H A W req _ gr)) $ pass1 ! (init ! 32 refl (tt, (tt, (record { fits = room″ .0 }, tt)))) $ pass0 ! $
+        pass1 ! (init ! 40 refl (Head-typed 𝓤 H A W h _ gh)) $ pass1 ! (init ! 38 refl (tt, (tt, (record { fits = room .0 }, tt)))) $ pass1 ! (init ! 36 refl (tt, (tt, (record { fits = room′ .0 }, tt)))) $ pass1 ! (init ! 34 refl (Call-typed 𝓤 H A W req _ gr)) $ pass1 ! (init ! 32 refl (tt, (tt, (record { fits = room″ .0 }, tt)))) $ pass0 ! $
         -- [the locals; the tokens (44); what head, words, links, request and out own]
         move ! (45 ∷ []) $ fsplit ! $ drop ! $ fsplit ! $ move ! (1 ∷ []) $ fsplit ! $ move ! (1 ∷ []) $ fsplit ! $ drop ! $ fsplit ! $
         -- [out; true; links; words; the locals; the tokens (48)]
@@ -238,12 +238,12 @@ module _ {M : Type 1} (𝓤 : URA M) (H : Heap 𝓤) (A : Atoms 𝓤) (W : Given
 module _ {M : Type 1} (𝓤 : URA M) (H : Heap 𝓤) (A : Atoms 𝓤) (W : Given 𝓤 H A) (mem : Memory → SProp 𝓤) (run : Routine → Fun 𝓤) (𝓣 : Tables 𝓤 H) (known-load-links : Triple 𝓤 (𝓣 .C #face-head·load-links) (LoadLinks 𝓤 H A mem run)) (known-serve : Triple 𝓤 (𝓣 .C #head-calls·serve) (Serve 𝓤 H A mem run)) (known-kept : Triple 𝓤 (𝓣 .C #face-head-calls·kept) (Kept 𝓤 H A mem run)) (known-store-links : Triple 𝓤 (𝓣 .C #face-head·store-links) (StoreLinks 𝓤 H A mem run)) where
   lend-walks : Walks 𝓤 H A lend.ended stayed (WpFn 𝓤 H (𝓣 .C) (𝓣 .Λ) code.function) (lend.clauses 𝓤 H A mem run)
   lend-walks = walked 𝓤 H A lend.ended stayed (lend.clauses 𝓤 H A mem run) (WpFn 𝓤 H (𝓣 .C) (𝓣 .Λ) code.function)
-      (λ κs. ((λ t. Head-mach t ∷ []), (slice-vals, (slice-vals, ((λ t. Request-mach t ∷ []), (slice-vals, tt)))))) (λ κs. (Head-tells, (mut-slice-tells (named 0) (κs .0) u64, (mut-slice-tells (named 1) (κs .1 .0) Link-row, (Request-tells, (mut-slice-tells (named 2) (κs .1 .1 .0) u8, tt))))))
+      (λ κs. ((λ t. Head-mach t ∷ []), (slice-vals, (slice-vals, ((λ t. Call-mach t ∷ []), (slice-vals, tt)))))) (λ κs. (Head-tells, (mut-slice-tells (named 0) (κs .0) u64, (mut-slice-tells (named 1) (κs .1 .0) Link-row, (Call-tells, (mut-slice-tells (named 2) (κs .1 .1 .0) u8, tt))))))
       (λ κs qs bounds a g are. via 𝓤 _ (fst∗ 𝓤 _ (emp 𝓤))
       (walk 𝓤 H A W mem run (κs .0) (κs .1 .0) (κs .1 .1 .0) (qs .0) (qs .1 .0) (qs .1 .1 .0) (a .0) (are .0) (a .1 .0 .ptr .0) (a .1 .0 .ptr .1) (a .1 .0 .name) (a .1 .0 .now) (a .1 .1 .0 .ptr .0) (a .1 .1 .0 .ptr .1) (a .1 .1 .0 .name) (a .1 .1 .0 .now) (a .1 .1 .1 .0) (are .1 .1 .1 .0) (a .1 .1 .1 .1 .0 .ptr .0) (a .1 .1 .1 .1 .0 .ptr .1) (a .1 .1 .1 .1 .0 .name) (a .1 .1 .1 .1 .0 .now) 𝓣 known-load-links known-serve known-kept known-store-links (are .1 .0 .0 .1) (are .1 .1 .0 .0 .1) (are .1 .1 .1 .1 .0 .0 .1)))
 
   lend-meets : Meets 𝓤 H A lend.signature (WpFn 𝓤 H (𝓣 .C) (𝓣 .Λ) code.function) (lend.spec 𝓤 H A mem run)
-  lend-meets = walk-meets 𝓤 H A lend.ended stayed W (goes-none 𝓤 H A W 3 (λ _. Head-row) yes (λ κs x f. refl), (goes-slice 𝓤 H A W 3 0 tt (plain (λ _. u64)), (goes-slice 𝓤 H A W 3 1 tt (plain (λ _. Link-row)), (goes-none 𝓤 H A W 3 (λ _. Request-row) yes (λ κs x f. refl), (goes-slice 𝓤 H A W 3 2 tt (plain (λ _. u8)), tt))))) (lend.clauses 𝓤 H A mem run)
+  lend-meets = walk-meets 𝓤 H A lend.ended stayed W (goes-none 𝓤 H A W 3 (λ _. Head-row) yes (λ κs x f. refl), (goes-slice 𝓤 H A W 3 0 tt (plain (λ _. u64)), (goes-slice 𝓤 H A W 3 1 tt (plain (λ _. Link-row)), (goes-none 𝓤 H A W 3 (λ _. Call-row) yes (λ κs x f. refl), (goes-slice 𝓤 H A W 3 2 tt (plain (λ _. u8)), tt))))) (lend.clauses 𝓤 H A mem run)
       (WpFn 𝓤 H (𝓣 .C) (𝓣 .Λ) code.function) (WpFn-mono 𝓤 H (W .laws) 𝓣 code.function) lend-walks
 
 pub lend-spec : {M : Type 1} → stated.statement M

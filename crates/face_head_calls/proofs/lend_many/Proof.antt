@@ -42,12 +42,12 @@ use Rattle.head_links.specs.declared.Link.{Link}
 use Rattle.head_links.proofs.Link.Laws as M-Link
 use Rattle.head_links.proofs.Values.{Link-row, Link-mach, Link-tells, Link-makes}
 use Rattle.head_state.specs.declared.Head.{Head}
-use Rattle.head_judging.specs.declared.Request.{Request}
+use Rattle.head_judging.specs.declared.Call.{Call}
 use Rattle.head_state.proofs.Head.Laws as M-Head
-use Rattle.head_judging.proofs.Request.Laws as M-Request
+use Rattle.head_judging.proofs.Call.Laws as M-Call
 use Rattle.head_calls.specs.declared.Answer.{Answer}
 use Rattle.head_calls.proofs.Answer.Laws as M-Answer
-use Rattle.head_calls.proofs.Values.{Head-row, Head-mach, Head-tells, Head-makes, Head-typed, Request-row, Request-mach, Request-tells, Request-makes, Request-typed, Answer-row, Answer-mach, Answer-makes, Answer-typed}
+use Rattle.head_calls.proofs.Values.{Head-row, Head-mach, Head-tells, Head-makes, Head-typed, Call-row, Call-mach, Call-tells, Call-makes, Call-typed, Answer-row, Answer-mach, Answer-makes, Answer-typed}
 use Rattle.face_head_calls.specs.Lend.{lendLeft, lendOf}
 use Rattle.face_head_calls.proofs.Values.{is-now, Table-row, Table-mach, Table-typed}
 use Rattle.face_head_calls.proofs.Words.{take-idle}
@@ -87,9 +87,9 @@ abbrev oref : Ty
 oref = tyRef erased mut (tyInt w8)
 
 abbrev stayed : Stays (lend-many.ended .signature .params) (lend-many.ended .kept)
-stayed = (stay-none (λ _. Head-row) yes, (stay-slice (0 ∷ []) tt (plain (λ _. u64)), (stay-none (λ _. usize) yes, (stay-none (λ _. Request-row) yes, (stay-slice (1 ∷ []) tt (plain (λ _. u8)), tt)))))
+stayed = (stay-none (λ _. Head-row) yes, (stay-slice (0 ∷ []) tt (plain (λ _. u64)), (stay-none (λ _. usize) yes, (stay-none (λ _. Call-row) yes, (stay-slice (1 ∷ []) tt (plain (λ _. u8)), tt)))))
 
-module _ {M : Type 1} (𝓤 : URA M) (H : Heap 𝓤) (A : Atoms 𝓤) (W : Given 𝓤 H A) (mem : Memory → SProp 𝓤) (run : Routine → Fun 𝓤) (κ κ′ : Lft) (q q′ : Share) (h : Head) (gh : Is Head-row h (Head-mach h ∷ [])) (b o : ℕ) (γ : GName) (ws : List ℕ) (k : ℕ) (gk : k < 2 ^ 64) (low : k ≤ 64) (req : Request) (gr : Is Request-row req (Request-mach req ∷ [])) (b′ o′ : ℕ) (γ′ : GName) (os : List ℕ) where
+module _ {M : Type 1} (𝓤 : URA M) (H : Heap 𝓤) (A : Atoms 𝓤) (W : Given 𝓤 H A) (mem : Memory → SProp 𝓤) (run : Routine → Fun 𝓤) (κ κ′ : Lft) (q q′ : Share) (h : Head) (gh : Is Head-row h (Head-mach h ∷ [])) (b o : ℕ) (γ : GName) (ws : List ℕ) (k : ℕ) (gk : k < 2 ^ 64) (low : k ≤ 64) (req : Call) (gr : Is Call-row req (Call-mach req ∷ [])) (b′ o′ : ℕ) (γ′ : GName) (os : List ℕ) where
   abbrev n : ℕ
   n = length ws
 
@@ -103,7 +103,7 @@ module _ {M : Type 1} (𝓤 : URA M) (H : Heap 𝓤) (A : Atoms 𝓤) (W : Given
   s′ = sliceVal (b′, o′) m
 
   abbrev at : Vals lend-many.signature (κ, (κ′, tt))
-  at = (Head-mach h ∷ [], (s ∷ [], (vint w64 k ∷ [], (Request-mach req ∷ [], (s′ ∷ [], tt)))))
+  at = (Head-mach h ∷ [], (s ∷ [], (vint w64 k ∷ [], (Call-mach req ∷ [], (s′ ∷ [], tt)))))
 
   abbrev bound : walkOf 𝓤 H A lend-many.ended stayed (lend-many.clauses 𝓤 H A mem run) .Ghost
   bound = (((κ, (κ′, tt)), (q, (q′, tt)), tt, (h, (at-list b o γ ws, (k, (req, (at-list b′ o′ γ′ os, tt))))), at), tt)
@@ -129,7 +129,7 @@ module _ {M : Type 1} (𝓤 : URA M) (H : Heap 𝓤) (A : Atoms 𝓤) (W : Given
       qed W (Held us zs []) ∵
       suffices ! _ (ends-at 𝓤 H A lend-many.ended stayed (lend-many.clauses 𝓤 H A mem run) W bound (Answer-mach a) a (tt, (us, (tt, (tt, (zs, tt))))) (tt, (l, (tt, (tt, (l′, tt)))))) $ says ! e $
       nothing ! $ move ! (4 ∷ 0 ∷ []) $ join ! $ move ! (2 ∷ 0 ∷ []) $ join ! $ frame ! $
-      nothing ! $ move ! (2 ∷ 0 ∷ []) $ fjoin ! $ owned ! Request-row (Is Request-row) (Request-makes 𝓤 H A) req _ gr $ fjoin ! $ owned ! usize (Is usize) (uint-makes 𝓤 H A W w64) k _ (refl, gk) $ fjoin ! $ move ! (1 ∷ 0 ∷ []) $ fjoin ! $ owned ! Head-row (Is Head-row) (Head-makes 𝓤 H A) h _ gh $ fjoin ! $ frame ! $ owned ! Answer-row (Is Answer-row) (Answer-makes 𝓤 H A) a _ is $ done !
+      nothing ! $ move ! (2 ∷ 0 ∷ []) $ fjoin ! $ owned ! Call-row (Is Call-row) (Call-makes 𝓤 H A) req _ gr $ fjoin ! $ owned ! usize (Is usize) (uint-makes 𝓤 H A W w64) k _ (refl, gk) $ fjoin ! $ move ! (1 ∷ 0 ∷ []) $ fjoin ! $ owned ! Head-row (Is Head-row) (Head-makes 𝓤 H A) h _ gh $ fjoin ! $ frame ! $ owned ! Answer-row (Is Answer-row) (Answer-makes 𝓤 H A) a _ is $ done !
 
   module _ (𝓣 : Tables 𝓤 H) (known-many : Triple 𝓤 (𝓣 .C #face-head-calls·many) (Many 𝓤 H A mem run)) (known-lend : Triple 𝓤 (𝓣 .C #face-head-calls·lend) (Lend 𝓤 H A mem run)) (room : Room u64 n) (room′ : Room u8 m) (l₀ l₁ l₂ l₃ l₄ l₅ l₆ l₇ l₈ l₉ l₁₀ l₁₁ l₁₂ l₁₃ : ℕ) where
     abbrev C : Calls 𝓤 H
@@ -142,14 +142,14 @@ module _ {M : Type 1} (𝓤 : URA M) (H : Heap 𝓤) (A : Atoms 𝓤) (W : Given
     fm = fmOf 𝓤 H (W .laws) 𝓣
 
     abbrev E : Env 𝓤 H
-    E = (M-Answer.mir, l₀) ∷ (M-Head.mir, l₁) ∷ (words, l₂) ∷ (tyInt w64, l₃) ∷ (M-Request.mir, l₄) ∷ (octets, l₅) ∷ (table, l₆) ∷ (table, l₇) ∷ (wref, l₈) ∷ ((sliceTy wref), l₉) ∷ (tref, l₁₀) ∷ ((sliceTy lref), l₁₁) ∷ (oref, l₁₂) ∷ ((sliceTy oref), l₁₃) ∷ []
+    E = (M-Answer.mir, l₀) ∷ (M-Head.mir, l₁) ∷ (words, l₂) ∷ (tyInt w64, l₃) ∷ (M-Call.mir, l₄) ∷ (octets, l₅) ∷ (table, l₆) ∷ (table, l₇) ∷ (wref, l₈) ∷ ((sliceTy wref), l₉) ∷ (tref, l₁₀) ∷ ((sliceTy lref), l₁₁) ∷ (oref, l₁₂) ∷ ((sliceTy oref), l₁₃) ∷ []
 
     -- the locals where the body begins, and once the table is made
     abbrev Begun : List (Item 𝓤)
-    Begun = ‵ (froom (sliceTy oref) l₁₃ 0) ∷ ‵ (fdies (sliceTy oref) l₁₃) ∷ ‵ (froom oref l₁₂ 0) ∷ ‵ (fdies oref l₁₂) ∷ ‵ (froom (sliceTy lref) l₁₁ 0) ∷ ‵ (fdies (sliceTy lref) l₁₁) ∷ ‵ (froom tref l₁₀ 0) ∷ ‵ (fdies tref l₁₀) ∷ ‵ (froom (sliceTy wref) l₉ 0) ∷ ‵ (fdies (sliceTy wref) l₉) ∷ ‵ (froom wref l₈ 0) ∷ ‵ (fdies wref l₈) ∷ ‵ (froom table l₇ 0) ∷ ‵ (fdies table l₇) ∷ ‵ (froom table l₆ 0) ∷ ‵ (fdies table l₆) ∷ ‵ (fat fullShare octets l₅ 0 s′) ∷ ‵ (fdies octets l₅) ∷ ‵ (fat fullShare M-Request.mir l₄ 0 (Request-mach req)) ∷ ‵ (fdies M-Request.mir l₄) ∷ ‵ (fat fullShare (tyInt w64) l₃ 0 (vint w64 k)) ∷ ‵ (fdies (tyInt w64) l₃) ∷ ‵ (fat fullShare words l₂ 0 s) ∷ ‵ (fdies words l₂) ∷ ‵ (fat fullShare M-Head.mir l₁ 0 (Head-mach h)) ∷ ‵ (fdies M-Head.mir l₁) ∷ ‵ (froom M-Answer.mir l₀ 0) ∷ ‵ (fdies M-Answer.mir l₀) ∷ []
+    Begun = ‵ (froom (sliceTy oref) l₁₃ 0) ∷ ‵ (fdies (sliceTy oref) l₁₃) ∷ ‵ (froom oref l₁₂ 0) ∷ ‵ (fdies oref l₁₂) ∷ ‵ (froom (sliceTy lref) l₁₁ 0) ∷ ‵ (fdies (sliceTy lref) l₁₁) ∷ ‵ (froom tref l₁₀ 0) ∷ ‵ (fdies tref l₁₀) ∷ ‵ (froom (sliceTy wref) l₉ 0) ∷ ‵ (fdies (sliceTy wref) l₉) ∷ ‵ (froom wref l₈ 0) ∷ ‵ (fdies wref l₈) ∷ ‵ (froom table l₇ 0) ∷ ‵ (fdies table l₇) ∷ ‵ (froom table l₆ 0) ∷ ‵ (fdies table l₆) ∷ ‵ (fat fullShare octets l₅ 0 s′) ∷ ‵ (fdies octets l₅) ∷ ‵ (fat fullShare M-Call.mir l₄ 0 (Call-mach req)) ∷ ‵ (fdies M-Call.mir l₄) ∷ ‵ (fat fullShare (tyInt w64) l₃ 0 (vint w64 k)) ∷ ‵ (fdies (tyInt w64) l₃) ∷ ‵ (fat fullShare words l₂ 0 s) ∷ ‵ (fdies words l₂) ∷ ‵ (fat fullShare M-Head.mir l₁ 0 (Head-mach h)) ∷ ‵ (fdies M-Head.mir l₁) ∷ ‵ (froom M-Answer.mir l₀ 0) ∷ ‵ (fdies M-Answer.mir l₀) ∷ []
 
     abbrev Made : List Link → List (Item 𝓤)
-    Made r = ‵ (froom (sliceTy oref) l₁₃ 0) ∷ ‵ (fdies (sliceTy oref) l₁₃) ∷ ‵ (froom oref l₁₂ 0) ∷ ‵ (fdies oref l₁₂) ∷ ‵ (froom (sliceTy lref) l₁₁ 0) ∷ ‵ (fdies (sliceTy lref) l₁₁) ∷ ‵ (froom tref l₁₀ 0) ∷ ‵ (fdies tref l₁₀) ∷ ‵ (froom (sliceTy wref) l₉ 0) ∷ ‵ (fdies (sliceTy wref) l₉) ∷ ‵ (froom wref l₈ 0) ∷ ‵ (fdies wref l₈) ∷ ‵ (froom table l₇ 0) ∷ ‵ (fdies table l₇) ∷ ‵ (fat fullShare table l₆ 0 (Table-mach r)) ∷ ‵ (fdies table l₆) ∷ ‵ (fat fullShare octets l₅ 0 s′) ∷ ‵ (fdies octets l₅) ∷ ‵ (fat fullShare M-Request.mir l₄ 0 (Request-mach req)) ∷ ‵ (fdies M-Request.mir l₄) ∷ ‵ (fat fullShare (tyInt w64) l₃ 0 (vint w64 k)) ∷ ‵ (fdies (tyInt w64) l₃) ∷ ‵ (fat fullShare words l₂ 0 s) ∷ ‵ (fdies words l₂) ∷ ‵ (fat fullShare M-Head.mir l₁ 0 (Head-mach h)) ∷ ‵ (fdies M-Head.mir l₁) ∷ ‵ (froom M-Answer.mir l₀ 0) ∷ ‵ (fdies M-Answer.mir l₀) ∷ []
+    Made r = ‵ (froom (sliceTy oref) l₁₃ 0) ∷ ‵ (fdies (sliceTy oref) l₁₃) ∷ ‵ (froom oref l₁₂ 0) ∷ ‵ (fdies oref l₁₂) ∷ ‵ (froom (sliceTy lref) l₁₁ 0) ∷ ‵ (fdies (sliceTy lref) l₁₁) ∷ ‵ (froom tref l₁₀ 0) ∷ ‵ (fdies tref l₁₀) ∷ ‵ (froom (sliceTy wref) l₉ 0) ∷ ‵ (fdies (sliceTy wref) l₉) ∷ ‵ (froom wref l₈ 0) ∷ ‵ (fdies wref l₈) ∷ ‵ (froom table l₇ 0) ∷ ‵ (fdies table l₇) ∷ ‵ (fat fullShare table l₆ 0 (Table-mach r)) ∷ ‵ (fdies table l₆) ∷ ‵ (fat fullShare octets l₅ 0 s′) ∷ ‵ (fdies octets l₅) ∷ ‵ (fat fullShare M-Call.mir l₄ 0 (Call-mach req)) ∷ ‵ (fdies M-Call.mir l₄) ∷ ‵ (fat fullShare (tyInt w64) l₃ 0 (vint w64 k)) ∷ ‵ (fdies (tyInt w64) l₃) ∷ ‵ (fat fullShare words l₂ 0 s) ∷ ‵ (fdies words l₂) ∷ ‵ (fat fullShare M-Head.mir l₁ 0 (Head-mach h)) ∷ ‵ (fdies M-Head.mir l₁) ∷ ‵ (froom M-Answer.mir l₀ 0) ∷ ‵ (fdies M-Answer.mir l₀) ∷ []
 
     calls : (r : List Link) → Is (Table-row 64) r (Table-mach r ∷ []) → r ≡ replicate 64 idle → Sq W (Held ws os (Made r)) (runs C Λ E parts.t-3 (atRet E Post))
     calls r gt e =
@@ -183,11 +183,11 @@ module _ {M : Type 1} (𝓤 : URA M) (H : Heap 𝓤) (A : Atoms 𝓤) (W : Given
         calls r (is-now (Table-row 64) Table-mach r w (e .value) (e .is)) (e .says))))
 
   module _ (𝓣 : Tables 𝓤 H) (known-many : Triple 𝓤 (𝓣 .C #face-head-calls·many) (Many 𝓤 H A mem run)) (known-lend : Triple 𝓤 (𝓣 .C #face-head-calls·lend) (Lend 𝓤 H A mem run)) where
-    walk : Room u64 n → Room u8 m → ent 𝓤 (onEntry 𝓤 H A lend-many.signature (κ, (κ′, tt)) (q, (q′, tt)) (h, (at-list b o γ ws, (k, (req, (at-list b′ o′ γ′ os, tt))))) at) (WpFn 𝓤 H (𝓣 .C) (𝓣 .Λ) code.function (Head-mach h ∷ s ∷ vint w64 k ∷ Request-mach req ∷ s′ ∷ []) Post)
+    walk : Room u64 n → Room u8 m → ent 𝓤 (onEntry 𝓤 H A lend-many.signature (κ, (κ′, tt)) (q, (q′, tt)) (h, (at-list b o γ ws, (k, (req, (at-list b′ o′ γ′ os, tt))))) at) (WpFn 𝓤 H (𝓣 .C) (𝓣 .Λ) code.function (Head-mach h ∷ s ∷ vint w64 k ∷ Call-mach req ∷ s′ ∷ []) Post)
     walk room room′ =
-        qed W ((‵ (flft κ q) ⊛ ‵ (flft κ′ q′) ⊛ ‵ ftrue) ∷ ‵ (owns (Head-row ∷ MutSlice (named 0) κ u64 ∷ usize ∷ Request-row ∷ MutSlice (named 1) κ′ u8 ∷ []) (h, (at-list b o γ ws, (k, (req, (at-list b′ o′ γ′ os, tt))))) at) ∷ []) ∵ enter ! (𝓣 .C) (𝓣 .Λ) code.function (Head-mach h ∷ s ∷ vint w64 k ∷ Request-mach req ∷ s′ ∷ []) _ $
+        qed W ((‵ (flft κ q) ⊛ ‵ (flft κ′ q′) ⊛ ‵ ftrue) ∷ ‵ (owns (Head-row ∷ MutSlice (named 0) κ u64 ∷ usize ∷ Call-row ∷ MutSlice (named 1) κ′ u8 ∷ []) (h, (at-list b o γ ws, (k, (req, (at-list b′ o′ γ′ os, tt))))) at) ∷ []) ∵ enter ! (𝓣 .C) (𝓣 .Λ) code.function (Head-mach h ∷ s ∷ vint w64 k ∷ Call-mach req ∷ s′ ∷ []) _ $
         alloc1 ! (λ l₀. alloc1 ! (λ l₁. alloc1 ! (λ l₂. alloc1 ! (λ l₃. alloc1 ! (λ l₄. alloc1 ! (λ l₅. alloc1 ! (λ l₆. alloc1 ! (λ l₇. alloc1 ! (λ l₈. alloc1 ! (λ l₉. alloc1 ! (λ l₁₀. alloc1 ! (λ l₁₁. alloc1 ! (λ l₁₂. alloc1 ! (λ l₁₃. alloc0 ! $ params1 ! $
-        pass1 ! (init ! 24 refl (Head-typed 𝓤 H A W h _ gh)) $ pass1 ! (init ! 22 refl (tt, (tt, (record { fits = room .0 }, tt)))) $ pass1 ! (init ! 20 refl (tt, record { fits = gk })) $ pass1 ! (init ! 18 refl (Request-typed 𝓤 H A W req _ gr)) $ pass1 ! (init ! 16 refl (tt, (tt, (record { fits = room′ .0 }, tt)))) $ pass0 ! $
+        pass1 ! (init ! 24 refl (Head-typed 𝓤 H A W h _ gh)) $ pass1 ! (init ! 22 refl (tt, (tt, (record { fits = room .0 }, tt)))) $ pass1 ! (init ! 20 refl (tt, record { fits = gk })) $ pass1 ! (init ! 18 refl (Call-typed 𝓤 H A W req _ gr)) $ pass1 ! (init ! 16 refl (tt, (tt, (record { fits = room′ .0 }, tt)))) $ pass0 ! $
         -- [the locals; the tokens (28); what head, words, n, request and out own]
         move ! (29 ∷ []) $ fsplit ! $ drop ! $ fsplit ! $ move ! (1 ∷ []) $ fsplit ! $ drop ! $ fsplit ! $ drop ! $ fsplit ! $ move ! (31 ∷ []) $ split ! $ move ! (1 ∷ []) $ split ! $
         -- [out's token; true; words' token; what out owns; true; what words owns; the locals]
@@ -197,12 +197,12 @@ module _ {M : Type 1} (𝓤 : URA M) (H : Heap 𝓤) (A : Atoms 𝓤) (W : Given
 module _ {M : Type 1} (𝓤 : URA M) (H : Heap 𝓤) (A : Atoms 𝓤) (W : Given 𝓤 H A) (mem : Memory → SProp 𝓤) (run : Routine → Fun 𝓤) (𝓣 : Tables 𝓤 H) (known-many : Triple 𝓤 (𝓣 .C #face-head-calls·many) (Many 𝓤 H A mem run)) (known-lend : Triple 𝓤 (𝓣 .C #face-head-calls·lend) (Lend 𝓤 H A mem run)) where
   lend-many-walks : Walks 𝓤 H A lend-many.ended stayed (WpFn 𝓤 H (𝓣 .C) (𝓣 .Λ) code.function) (lend-many.clauses 𝓤 H A mem run)
   lend-many-walks = walked 𝓤 H A lend-many.ended stayed (lend-many.clauses 𝓤 H A mem run) (WpFn 𝓤 H (𝓣 .C) (𝓣 .Λ) code.function)
-      (λ κs. ((λ t. Head-mach t ∷ []), (slice-vals, (uint-vals w64, ((λ t. Request-mach t ∷ []), (slice-vals, tt)))))) (λ κs. (Head-tells, (mut-slice-tells (named 0) (κs .0) u64, (uint-tells w64, (Request-tells, (mut-slice-tells (named 1) (κs .1 .0) u8, tt))))))
+      (λ κs. ((λ t. Head-mach t ∷ []), (slice-vals, (uint-vals w64, ((λ t. Call-mach t ∷ []), (slice-vals, tt)))))) (λ κs. (Head-tells, (mut-slice-tells (named 0) (κs .0) u64, (uint-tells w64, (Call-tells, (mut-slice-tells (named 1) (κs .1 .0) u8, tt))))))
       (λ κs qs bounds a g are. needs 𝓤 (a .1 .1 .0 ≤ 64) _ (λ low.
       walk 𝓤 H A W mem run (κs .0) (κs .1 .0) (qs .0) (qs .1 .0) (a .0) (are .0) (a .1 .0 .ptr .0) (a .1 .0 .ptr .1) (a .1 .0 .name) (a .1 .0 .now) (a .1 .1 .0) (are .1 .1 .0 .1) low (a .1 .1 .1 .0) (are .1 .1 .1 .0) (a .1 .1 .1 .1 .0 .ptr .0) (a .1 .1 .1 .1 .0 .ptr .1) (a .1 .1 .1 .1 .0 .name) (a .1 .1 .1 .1 .0 .now) 𝓣 known-many known-lend (are .1 .0 .0 .1) (are .1 .1 .1 .1 .0 .0 .1)))
 
   lend-many-meets : Meets 𝓤 H A lend-many.signature (WpFn 𝓤 H (𝓣 .C) (𝓣 .Λ) code.function) (lend-many.spec 𝓤 H A mem run)
-  lend-many-meets = walk-meets 𝓤 H A lend-many.ended stayed W (goes-none 𝓤 H A W 2 (λ _. Head-row) yes (λ κs x f. refl), (goes-slice 𝓤 H A W 2 0 tt (plain (λ _. u64)), (goes-none 𝓤 H A W 2 (λ _. usize) yes (λ κs x f. refl), (goes-none 𝓤 H A W 2 (λ _. Request-row) yes (λ κs x f. refl), (goes-slice 𝓤 H A W 2 1 tt (plain (λ _. u8)), tt))))) (lend-many.clauses 𝓤 H A mem run)
+  lend-many-meets = walk-meets 𝓤 H A lend-many.ended stayed W (goes-none 𝓤 H A W 2 (λ _. Head-row) yes (λ κs x f. refl), (goes-slice 𝓤 H A W 2 0 tt (plain (λ _. u64)), (goes-none 𝓤 H A W 2 (λ _. usize) yes (λ κs x f. refl), (goes-none 𝓤 H A W 2 (λ _. Call-row) yes (λ κs x f. refl), (goes-slice 𝓤 H A W 2 1 tt (plain (λ _. u8)), tt))))) (lend-many.clauses 𝓤 H A mem run)
       (WpFn 𝓤 H (𝓣 .C) (𝓣 .Λ) code.function) (WpFn-mono 𝓤 H (W .laws) 𝓣 code.function) lend-many-walks
 
 pub lend-many-spec : {M : Type 1} → stated.statement M

@@ -56,7 +56,7 @@ use Rattle.head_table.specs.declared.Sender.{Sender}
 use Rattle.head_state.specs.declared.Head.{Head}
 use Rattle.head_judging.specs.Judge.{lookOf, judgeOf}
 use Rattle.head_plans.specs.declared.Plan.{Plan}
-use Rattle.head_judging.specs.declared.Request.{Request}
+use Rattle.head_judging.specs.declared.Call.{Call}
 use Rattle.head_calls.specs.Serve.{served, planOf, senderOf, sentOf, answerOf, doneOf, serveOf}
 use Rattle.head_calls.specs.declared.Answer.{Answer}
 use Rattle.head_links.proofs.Sent.Laws as M-Sent
@@ -66,12 +66,12 @@ use Rattle.head_table.proofs.Event.Laws as M-Event
 use Rattle.head_table.proofs.Sender.Laws as M-Sender
 use Rattle.head_state.proofs.Head.Laws as M-Head
 use Rattle.head_plans.proofs.Plan.Laws as M-Plan
-use Rattle.head_judging.proofs.Request.Laws as M-Request
+use Rattle.head_judging.proofs.Call.Laws as M-Call
 use Rattle.head_calls.proofs.Answer.Laws as M-Answer
 use Rattle.head_links.proofs.Values.{Link-row, Sent-row, Sent-mach, Sent-typed}
 use Rattle.head_survey.proofs.Values.{Look-row, Look-mach, Look-typed, Facts-row, Facts-mach, Facts-typed}
 use Rattle.head_table.proofs.Values.{Event-row, Event-mach, Event-typed, Sender-row, Sender-mach, Sender-typed}
-use Rattle.head_calls.proofs.Values.{Answer-row, Answer-mach, Answer-makes, Answer-typed, Head-row, Head-mach, Head-tells, Head-makes, Head-typed, Request-row, Request-mach, Request-tells, Request-makes, Request-typed, Plan-row, Plan-mach, Plan-typed}
+use Rattle.head_calls.proofs.Values.{Answer-row, Answer-mach, Answer-makes, Answer-typed, Head-row, Head-mach, Head-tells, Head-makes, Head-typed, Call-row, Call-mach, Call-tells, Call-makes, Call-typed, Plan-row, Plan-mach, Plan-typed}
 use Rattle.head_table.proofs.Calls.{Note, to-note, goes-note, Left-note, left-note}
 use Rattle.head_calls.proofs.Calls.{Looking, to-looking, goes-looking, Left-looking, left-looking, Survey, to-survey, goes-survey, Left-survey, left-survey, Judge, to-judge, goes-judge, Left-judge, left-judge, SenderOf, to-sender-of, goes-sender-of, Left-sender-of, left-sender-of, LeadOf, to-lead-of, goes-lead-of, Left-lead-of, left-lead-of, EventOf, to-event-of, goes-event-of, Left-event-of, left-event-of, Drive, to-drive, goes-drive, Left-drive, left-drive, AnswerOf, to-answer-of, goes-answer-of, Left-answer-of, left-answer-of}
 use Rattle.head_judging.proofs.look.Symbol as looking-def
@@ -111,7 +111,7 @@ abbrev R : RattleType
 R = Link-row
 
 abbrev stayed : Stays (serve.ended .signature .params) (serve.ended .kept)
-stayed = (stay-none (λ _. Head-row) yes, (stay-slice (0 ∷ []) tt (plain (λ _. R)), (stay-none (λ _. Request-row) yes, (stay-slice (1 ∷ []) tt (plain (λ _. u8)), tt))))
+stayed = (stay-none (λ _. Head-row) yes, (stay-slice (0 ∷ []) tt (plain (λ _. R)), (stay-none (λ _. Call-row) yes, (stay-slice (1 ∷ []) tt (plain (λ _. u8)), tt))))
 
 -- the types of the references that are passed, and of those that are lent again
 abbrev slice : Ty
@@ -132,7 +132,7 @@ oref′ = tyRef erased mut (tyInt w8)
 is-now : (T : RattleType) (f : T .Denot → Val) (x : T .Denot) (w : Val) → w ≡ f x → Is T x (w ∷ []) → Is T x (f x ∷ [])
 is-now T f x w e is = subst (λ (u : Val). Is T x (u ∷ [])) e is
 
-module _ {M : Type 1} (𝓤 : URA M) (H : Heap 𝓤) (A : Atoms 𝓤) (W : Given 𝓤 H A) (mem : Memory → SProp 𝓤) (run : Routine → Fun 𝓤) (κ κ′ : Lft) (q q′ : Share) (h : Head) (gh : Is Head-row h (Head-mach h ∷ [])) (b o : ℕ) (γ : GName) (xs : List Link) (req : Request) (gr : Is Request-row req (Request-mach req ∷ [])) (b′ o′ : ℕ) (γ′ : GName) (os : List ℕ) where
+module _ {M : Type 1} (𝓤 : URA M) (H : Heap 𝓤) (A : Atoms 𝓤) (W : Given 𝓤 H A) (mem : Memory → SProp 𝓤) (run : Routine → Fun 𝓤) (κ κ′ : Lft) (q q′ : Share) (h : Head) (gh : Is Head-row h (Head-mach h ∷ [])) (b o : ℕ) (γ : GName) (xs : List Link) (req : Call) (gr : Is Call-row req (Call-mach req ∷ [])) (b′ o′ : ℕ) (γ′ : GName) (os : List ℕ) where
   abbrev n : ℕ
   n = length xs
 
@@ -146,7 +146,7 @@ module _ {M : Type 1} (𝓤 : URA M) (H : Heap 𝓤) (A : Atoms 𝓤) (W : Given
   s′ = sliceVal (b′, o′) m
 
   abbrev at : Vals serve.signature (κ, (κ′, tt))
-  at = (Head-mach h ∷ [], (s ∷ [], (Request-mach req ∷ [], (s′ ∷ [], tt))))
+  at = (Head-mach h ∷ [], (s ∷ [], (Call-mach req ∷ [], (s′ ∷ [], tt))))
 
   abbrev bound : walkOf 𝓤 H A serve.ended stayed (serve.clauses 𝓤 H A mem run) .Ghost
   bound = (((κ, (κ′, tt)), (q, (q′, tt)), tt, (h, (at-list b o γ xs, (req, (at-list b′ o′ γ′ os, tt)))), at), tt)
@@ -163,7 +163,7 @@ module _ {M : Type 1} (𝓤 : URA M) (H : Heap 𝓤) (A : Atoms 𝓤) (W : Given
       qed W (Held zs zs′ []) ∵
       suffices ! _ (ends-at 𝓤 H A serve.ended stayed (serve.clauses 𝓤 H A mem run) W bound (Answer-mach a) a (tt, (zs, (tt, (zs′, tt)))) (tt, (l, (tt, (l′, tt))))) $ says ! e $
       nothing ! $ move ! (4 ∷ 0 ∷ []) $ join ! $ move ! (2 ∷ 0 ∷ []) $ join ! $ frame ! $
-      nothing ! $ move ! (2 ∷ 0 ∷ []) $ fjoin ! $ owned ! Request-row (Is Request-row) (Request-makes 𝓤 H A) req _ gr $ fjoin ! $ move ! (1 ∷ 0 ∷ []) $ fjoin ! $ owned ! Head-row (Is Head-row) (Head-makes 𝓤 H A) h _ gh $ fjoin ! $ frame ! $ owned ! Answer-row (Is Answer-row) (Answer-makes 𝓤 H A) a _ is $ done !
+      nothing ! $ move ! (2 ∷ 0 ∷ []) $ fjoin ! $ owned ! Call-row (Is Call-row) (Call-makes 𝓤 H A) req _ gr $ fjoin ! $ move ! (1 ∷ 0 ∷ []) $ fjoin ! $ owned ! Head-row (Is Head-row) (Head-makes 𝓤 H A) h _ gh $ fjoin ! $ frame ! $ owned ! Answer-row (Is Answer-row) (Answer-makes 𝓤 H A) a _ is $ done !
 
   module _ (𝓣 : Tables 𝓤 H) (known-looking : Triple 𝓤 (𝓣 .C #head-judging·look) (Looking 𝓤 H A mem run)) (known-survey : Triple 𝓤 (𝓣 .C #head-survey·survey) (Survey 𝓤 H A mem run)) (known-judge : Triple 𝓤 (𝓣 .C #head-judging·judge) (Judge 𝓤 H A mem run)) (known-sender-of : Triple 𝓤 (𝓣 .C #head-calls·sender-of) (SenderOf 𝓤 H A mem run)) (known-lead-of : Triple 𝓤 (𝓣 .C #head-calls·lead-of) (LeadOf 𝓤 H A mem run)) (known-note : Triple 𝓤 (𝓣 .C #head-table·note) (Note 𝓤 H A mem run)) (known-event-of : Triple 𝓤 (𝓣 .C #head-calls·event-of) (EventOf 𝓤 H A mem run)) (known-drive : Triple 𝓤 (𝓣 .C #head-table·drive) (Drive 𝓤 H A mem run)) (known-answer-of : Triple 𝓤 (𝓣 .C #head-calls·answer-of) (AnswerOf 𝓤 H A mem run)) (room : Room R n) (room′ : Room u8 m) (l₀ l₁ l₂ l₃ l₄ l₅ l₆ l₇ l₈ l₉ l₁₀ l₁₁ l₁₂ l₁₃ l₁₄ l₁₅ l₁₆ l₁₇ l₁₈ l₁₉ l₂₀ l₂₁ l₂₂ : ℕ) where
     abbrev C : Calls 𝓤 H
@@ -176,20 +176,20 @@ module _ {M : Type 1} (𝓤 : URA M) (H : Heap 𝓤) (A : Atoms 𝓤) (W : Given
     fm = fmOf 𝓤 H (W .laws) 𝓣
 
     abbrev E : Env 𝓤 H
-    E = (M-Answer.mir, l₀) ∷ (M-Head.mir, l₁) ∷ (slice, l₂) ∷ (M-Request.mir, l₃) ∷ (octets, l₄) ∷ (M-Facts.mir, l₅) ∷ (M-Plan.mir, l₆) ∷ (tyInt w64, l₇) ∷ (tyInt w64, l₈) ∷ (look′, l₉) ∷ (sliceTy look′, l₁₀) ∷ (M-Look.mir, l₁₁) ∷ (tyInt w64, l₁₂) ∷ (tyInt w64, l₁₃) ∷ (oref′, l₁₄) ∷ (sliceTy oref′, l₁₅) ∷ (M-Sender.mir, l₁₆) ∷ (M-Sent.mir, l₁₇) ∷ (ref′, l₁₈) ∷ (sliceTy ref′, l₁₉) ∷ (M-Event.mir, l₂₀) ∷ (oref′, l₂₁) ∷ (sliceTy oref′, l₂₂) ∷ []
+    E = (M-Answer.mir, l₀) ∷ (M-Head.mir, l₁) ∷ (slice, l₂) ∷ (M-Call.mir, l₃) ∷ (octets, l₄) ∷ (M-Facts.mir, l₅) ∷ (M-Plan.mir, l₆) ∷ (tyInt w64, l₇) ∷ (tyInt w64, l₈) ∷ (look′, l₉) ∷ (sliceTy look′, l₁₀) ∷ (M-Look.mir, l₁₁) ∷ (tyInt w64, l₁₂) ∷ (tyInt w64, l₁₃) ∷ (oref′, l₁₄) ∷ (sliceTy oref′, l₁₅) ∷ (M-Sender.mir, l₁₆) ∷ (M-Sent.mir, l₁₇) ∷ (ref′, l₁₈) ∷ (sliceTy ref′, l₁₉) ∷ (M-Event.mir, l₂₀) ∷ (oref′, l₂₁) ∷ (sliceTy oref′, l₂₂) ∷ []
 
     -- the locals where the body begins, once the call is judged, once the head's own frame is noted, once the links are driven
     abbrev Begun : List (Item 𝓤)
-    Begun = ‵ (froom (sliceTy oref′) l₂₂ 0) ∷ ‵ (fdies (sliceTy oref′) l₂₂) ∷ ‵ (froom oref′ l₂₁ 0) ∷ ‵ (fdies oref′ l₂₁) ∷ ‵ (froom M-Event.mir l₂₀ 0) ∷ ‵ (fdies M-Event.mir l₂₀) ∷ ‵ (froom (sliceTy ref′) l₁₉ 0) ∷ ‵ (fdies (sliceTy ref′) l₁₉) ∷ ‵ (froom ref′ l₁₈ 0) ∷ ‵ (fdies ref′ l₁₈) ∷ ‵ (froom M-Sent.mir l₁₇ 0) ∷ ‵ (fdies M-Sent.mir l₁₇) ∷ ‵ (froom M-Sender.mir l₁₆ 0) ∷ ‵ (fdies M-Sender.mir l₁₆) ∷ ‵ (froom (sliceTy oref′) l₁₅ 0) ∷ ‵ (fdies (sliceTy oref′) l₁₅) ∷ ‵ (froom oref′ l₁₄ 0) ∷ ‵ (fdies oref′ l₁₄) ∷ ‵ (froom (tyInt w64) l₁₃ 0) ∷ ‵ (fdies (tyInt w64) l₁₃) ∷ ‵ (froom (tyInt w64) l₁₂ 0) ∷ ‵ (fdies (tyInt w64) l₁₂) ∷ ‵ (froom M-Look.mir l₁₁ 0) ∷ ‵ (fdies M-Look.mir l₁₁) ∷ ‵ (froom (sliceTy look′) l₁₀ 0) ∷ ‵ (fdies (sliceTy look′) l₁₀) ∷ ‵ (froom look′ l₉ 0) ∷ ‵ (fdies look′ l₉) ∷ ‵ (froom (tyInt w64) l₈ 0) ∷ ‵ (fdies (tyInt w64) l₈) ∷ ‵ (froom (tyInt w64) l₇ 0) ∷ ‵ (fdies (tyInt w64) l₇) ∷ ‵ (froom M-Plan.mir l₆ 0) ∷ ‵ (fdies M-Plan.mir l₆) ∷ ‵ (froom M-Facts.mir l₅ 0) ∷ ‵ (fdies M-Facts.mir l₅) ∷ ‵ (fat fullShare octets l₄ 0 s′) ∷ ‵ (fdies octets l₄) ∷ ‵ (fat fullShare M-Request.mir l₃ 0 (Request-mach req)) ∷ ‵ (fdies M-Request.mir l₃) ∷ ‵ (fat fullShare slice l₂ 0 s) ∷ ‵ (fdies slice l₂) ∷ ‵ (fat fullShare M-Head.mir l₁ 0 (Head-mach h)) ∷ ‵ (fdies M-Head.mir l₁) ∷ ‵ (froom M-Answer.mir l₀ 0) ∷ ‵ (fdies M-Answer.mir l₀) ∷ []
+    Begun = ‵ (froom (sliceTy oref′) l₂₂ 0) ∷ ‵ (fdies (sliceTy oref′) l₂₂) ∷ ‵ (froom oref′ l₂₁ 0) ∷ ‵ (fdies oref′ l₂₁) ∷ ‵ (froom M-Event.mir l₂₀ 0) ∷ ‵ (fdies M-Event.mir l₂₀) ∷ ‵ (froom (sliceTy ref′) l₁₉ 0) ∷ ‵ (fdies (sliceTy ref′) l₁₉) ∷ ‵ (froom ref′ l₁₈ 0) ∷ ‵ (fdies ref′ l₁₈) ∷ ‵ (froom M-Sent.mir l₁₇ 0) ∷ ‵ (fdies M-Sent.mir l₁₇) ∷ ‵ (froom M-Sender.mir l₁₆ 0) ∷ ‵ (fdies M-Sender.mir l₁₆) ∷ ‵ (froom (sliceTy oref′) l₁₅ 0) ∷ ‵ (fdies (sliceTy oref′) l₁₅) ∷ ‵ (froom oref′ l₁₄ 0) ∷ ‵ (fdies oref′ l₁₄) ∷ ‵ (froom (tyInt w64) l₁₃ 0) ∷ ‵ (fdies (tyInt w64) l₁₃) ∷ ‵ (froom (tyInt w64) l₁₂ 0) ∷ ‵ (fdies (tyInt w64) l₁₂) ∷ ‵ (froom M-Look.mir l₁₁ 0) ∷ ‵ (fdies M-Look.mir l₁₁) ∷ ‵ (froom (sliceTy look′) l₁₀ 0) ∷ ‵ (fdies (sliceTy look′) l₁₀) ∷ ‵ (froom look′ l₉ 0) ∷ ‵ (fdies look′ l₉) ∷ ‵ (froom (tyInt w64) l₈ 0) ∷ ‵ (fdies (tyInt w64) l₈) ∷ ‵ (froom (tyInt w64) l₇ 0) ∷ ‵ (fdies (tyInt w64) l₇) ∷ ‵ (froom M-Plan.mir l₆ 0) ∷ ‵ (fdies M-Plan.mir l₆) ∷ ‵ (froom M-Facts.mir l₅ 0) ∷ ‵ (fdies M-Facts.mir l₅) ∷ ‵ (fat fullShare octets l₄ 0 s′) ∷ ‵ (fdies octets l₄) ∷ ‵ (fat fullShare M-Call.mir l₃ 0 (Call-mach req)) ∷ ‵ (fdies M-Call.mir l₃) ∷ ‵ (fat fullShare slice l₂ 0 s) ∷ ‵ (fdies slice l₂) ∷ ‵ (fat fullShare M-Head.mir l₁ 0 (Head-mach h)) ∷ ‵ (fdies M-Head.mir l₁) ∷ ‵ (froom M-Answer.mir l₀ 0) ∷ ‵ (fdies M-Answer.mir l₀) ∷ []
 
     abbrev Judged : Plan → Facts → List (Item 𝓤)
-    Judged p f = ‵ (froom (sliceTy oref′) l₂₂ 0) ∷ ‵ (fdies (sliceTy oref′) l₂₂) ∷ ‵ (froom oref′ l₂₁ 0) ∷ ‵ (fdies oref′ l₂₁) ∷ ‵ (froom M-Event.mir l₂₀ 0) ∷ ‵ (fdies M-Event.mir l₂₀) ∷ ‵ (froom (sliceTy ref′) l₁₉ 0) ∷ ‵ (fdies (sliceTy ref′) l₁₉) ∷ ‵ (froom ref′ l₁₈ 0) ∷ ‵ (fdies ref′ l₁₈) ∷ ‵ (froom M-Sent.mir l₁₇ 0) ∷ ‵ (fdies M-Sent.mir l₁₇) ∷ ‵ (froom M-Sender.mir l₁₆ 0) ∷ ‵ (fdies M-Sender.mir l₁₆) ∷ ‵ (froom (sliceTy oref′) l₁₅ 0) ∷ ‵ (fdies (sliceTy oref′) l₁₅) ∷ ‵ (froom oref′ l₁₄ 0) ∷ ‵ (fdies oref′ l₁₄) ∷ ‵ (froom (tyInt w64) l₁₃ 0) ∷ ‵ (fdies (tyInt w64) l₁₃) ∷ ‵ (froom (tyInt w64) l₁₂ 0) ∷ ‵ (fdies (tyInt w64) l₁₂) ∷ ‵ (froom M-Look.mir l₁₁ 0) ∷ ‵ (fdies M-Look.mir l₁₁) ∷ ‵ (froom (sliceTy look′) l₁₀ 0) ∷ ‵ (fdies (sliceTy look′) l₁₀) ∷ ‵ (froom look′ l₉ 0) ∷ ‵ (fdies look′ l₉) ∷ ‵ (froom (tyInt w64) l₈ 0) ∷ ‵ (fdies (tyInt w64) l₈) ∷ ‵ (froom (tyInt w64) l₇ 0) ∷ ‵ (fdies (tyInt w64) l₇) ∷ ‵ (fat fullShare M-Plan.mir l₆ 0 (Plan-mach p)) ∷ ‵ (fdies M-Plan.mir l₆) ∷ ‵ (fat fullShare M-Facts.mir l₅ 0 (Facts-mach f)) ∷ ‵ (fdies M-Facts.mir l₅) ∷ ‵ (fat fullShare octets l₄ 0 s′) ∷ ‵ (fdies octets l₄) ∷ ‵ (fat fullShare M-Request.mir l₃ 0 (Request-mach req)) ∷ ‵ (fdies M-Request.mir l₃) ∷ ‵ (fat fullShare slice l₂ 0 s) ∷ ‵ (fdies slice l₂) ∷ ‵ (fat fullShare M-Head.mir l₁ 0 (Head-mach h)) ∷ ‵ (fdies M-Head.mir l₁) ∷ ‵ (froom M-Answer.mir l₀ 0) ∷ ‵ (fdies M-Answer.mir l₀) ∷ []
+    Judged p f = ‵ (froom (sliceTy oref′) l₂₂ 0) ∷ ‵ (fdies (sliceTy oref′) l₂₂) ∷ ‵ (froom oref′ l₂₁ 0) ∷ ‵ (fdies oref′ l₂₁) ∷ ‵ (froom M-Event.mir l₂₀ 0) ∷ ‵ (fdies M-Event.mir l₂₀) ∷ ‵ (froom (sliceTy ref′) l₁₉ 0) ∷ ‵ (fdies (sliceTy ref′) l₁₉) ∷ ‵ (froom ref′ l₁₈ 0) ∷ ‵ (fdies ref′ l₁₈) ∷ ‵ (froom M-Sent.mir l₁₇ 0) ∷ ‵ (fdies M-Sent.mir l₁₇) ∷ ‵ (froom M-Sender.mir l₁₆ 0) ∷ ‵ (fdies M-Sender.mir l₁₆) ∷ ‵ (froom (sliceTy oref′) l₁₅ 0) ∷ ‵ (fdies (sliceTy oref′) l₁₅) ∷ ‵ (froom oref′ l₁₄ 0) ∷ ‵ (fdies oref′ l₁₄) ∷ ‵ (froom (tyInt w64) l₁₃ 0) ∷ ‵ (fdies (tyInt w64) l₁₃) ∷ ‵ (froom (tyInt w64) l₁₂ 0) ∷ ‵ (fdies (tyInt w64) l₁₂) ∷ ‵ (froom M-Look.mir l₁₁ 0) ∷ ‵ (fdies M-Look.mir l₁₁) ∷ ‵ (froom (sliceTy look′) l₁₀ 0) ∷ ‵ (fdies (sliceTy look′) l₁₀) ∷ ‵ (froom look′ l₉ 0) ∷ ‵ (fdies look′ l₉) ∷ ‵ (froom (tyInt w64) l₈ 0) ∷ ‵ (fdies (tyInt w64) l₈) ∷ ‵ (froom (tyInt w64) l₇ 0) ∷ ‵ (fdies (tyInt w64) l₇) ∷ ‵ (fat fullShare M-Plan.mir l₆ 0 (Plan-mach p)) ∷ ‵ (fdies M-Plan.mir l₆) ∷ ‵ (fat fullShare M-Facts.mir l₅ 0 (Facts-mach f)) ∷ ‵ (fdies M-Facts.mir l₅) ∷ ‵ (fat fullShare octets l₄ 0 s′) ∷ ‵ (fdies octets l₄) ∷ ‵ (fat fullShare M-Call.mir l₃ 0 (Call-mach req)) ∷ ‵ (fdies M-Call.mir l₃) ∷ ‵ (fat fullShare slice l₂ 0 s) ∷ ‵ (fdies slice l₂) ∷ ‵ (fat fullShare M-Head.mir l₁ 0 (Head-mach h)) ∷ ‵ (fdies M-Head.mir l₁) ∷ ‵ (froom M-Answer.mir l₀ 0) ∷ ‵ (fdies M-Answer.mir l₀) ∷ []
 
     abbrev Lead : Plan → Facts → ℕ → List (Item 𝓤)
-    Lead p f v = ‵ (froom (sliceTy oref′) l₂₂ 0) ∷ ‵ (fdies (sliceTy oref′) l₂₂) ∷ ‵ (froom oref′ l₂₁ 0) ∷ ‵ (fdies oref′ l₂₁) ∷ ‵ (froom M-Event.mir l₂₀ 0) ∷ ‵ (fdies M-Event.mir l₂₀) ∷ ‵ (froom (sliceTy ref′) l₁₉ 0) ∷ ‵ (fdies (sliceTy ref′) l₁₉) ∷ ‵ (froom ref′ l₁₈ 0) ∷ ‵ (fdies ref′ l₁₈) ∷ ‵ (froom M-Sent.mir l₁₇ 0) ∷ ‵ (fdies M-Sent.mir l₁₇) ∷ ‵ (froom M-Sender.mir l₁₆ 0) ∷ ‵ (fdies M-Sender.mir l₁₆) ∷ ‵ (froom (sliceTy oref′) l₁₅ 0) ∷ ‵ (fdies (sliceTy oref′) l₁₅) ∷ ‵ (froom oref′ l₁₄ 0) ∷ ‵ (fdies oref′ l₁₄) ∷ ‵ (froom (tyInt w64) l₁₃ 0) ∷ ‵ (fdies (tyInt w64) l₁₃) ∷ ‵ (froom (tyInt w64) l₁₂ 0) ∷ ‵ (fdies (tyInt w64) l₁₂) ∷ ‵ (froom M-Look.mir l₁₁ 0) ∷ ‵ (fdies M-Look.mir l₁₁) ∷ ‵ (froom (sliceTy look′) l₁₀ 0) ∷ ‵ (fdies (sliceTy look′) l₁₀) ∷ ‵ (froom look′ l₉ 0) ∷ ‵ (fdies look′ l₉) ∷ ‵ (froom (tyInt w64) l₈ 0) ∷ ‵ (fdies (tyInt w64) l₈) ∷ ‵ (fat fullShare (tyInt w64) l₇ 0 (vint w64 v)) ∷ ‵ (fdies (tyInt w64) l₇) ∷ ‵ (fat fullShare M-Plan.mir l₆ 0 (Plan-mach p)) ∷ ‵ (fdies M-Plan.mir l₆) ∷ ‵ (fat fullShare M-Facts.mir l₅ 0 (Facts-mach f)) ∷ ‵ (fdies M-Facts.mir l₅) ∷ ‵ (fat fullShare octets l₄ 0 s′) ∷ ‵ (fdies octets l₄) ∷ ‵ (fat fullShare M-Request.mir l₃ 0 (Request-mach req)) ∷ ‵ (fdies M-Request.mir l₃) ∷ ‵ (fat fullShare slice l₂ 0 s) ∷ ‵ (fdies slice l₂) ∷ ‵ (fat fullShare M-Head.mir l₁ 0 (Head-mach h)) ∷ ‵ (fdies M-Head.mir l₁) ∷ ‵ (froom M-Answer.mir l₀ 0) ∷ ‵ (fdies M-Answer.mir l₀) ∷ []
+    Lead p f v = ‵ (froom (sliceTy oref′) l₂₂ 0) ∷ ‵ (fdies (sliceTy oref′) l₂₂) ∷ ‵ (froom oref′ l₂₁ 0) ∷ ‵ (fdies oref′ l₂₁) ∷ ‵ (froom M-Event.mir l₂₀ 0) ∷ ‵ (fdies M-Event.mir l₂₀) ∷ ‵ (froom (sliceTy ref′) l₁₉ 0) ∷ ‵ (fdies (sliceTy ref′) l₁₉) ∷ ‵ (froom ref′ l₁₈ 0) ∷ ‵ (fdies ref′ l₁₈) ∷ ‵ (froom M-Sent.mir l₁₇ 0) ∷ ‵ (fdies M-Sent.mir l₁₇) ∷ ‵ (froom M-Sender.mir l₁₆ 0) ∷ ‵ (fdies M-Sender.mir l₁₆) ∷ ‵ (froom (sliceTy oref′) l₁₅ 0) ∷ ‵ (fdies (sliceTy oref′) l₁₅) ∷ ‵ (froom oref′ l₁₄ 0) ∷ ‵ (fdies oref′ l₁₄) ∷ ‵ (froom (tyInt w64) l₁₃ 0) ∷ ‵ (fdies (tyInt w64) l₁₃) ∷ ‵ (froom (tyInt w64) l₁₂ 0) ∷ ‵ (fdies (tyInt w64) l₁₂) ∷ ‵ (froom M-Look.mir l₁₁ 0) ∷ ‵ (fdies M-Look.mir l₁₁) ∷ ‵ (froom (sliceTy look′) l₁₀ 0) ∷ ‵ (fdies (sliceTy look′) l₁₀) ∷ ‵ (froom look′ l₉ 0) ∷ ‵ (fdies look′ l₉) ∷ ‵ (froom (tyInt w64) l₈ 0) ∷ ‵ (fdies (tyInt w64) l₈) ∷ ‵ (fat fullShare (tyInt w64) l₇ 0 (vint w64 v)) ∷ ‵ (fdies (tyInt w64) l₇) ∷ ‵ (fat fullShare M-Plan.mir l₆ 0 (Plan-mach p)) ∷ ‵ (fdies M-Plan.mir l₆) ∷ ‵ (fat fullShare M-Facts.mir l₅ 0 (Facts-mach f)) ∷ ‵ (fdies M-Facts.mir l₅) ∷ ‵ (fat fullShare octets l₄ 0 s′) ∷ ‵ (fdies octets l₄) ∷ ‵ (fat fullShare M-Call.mir l₃ 0 (Call-mach req)) ∷ ‵ (fdies M-Call.mir l₃) ∷ ‵ (fat fullShare slice l₂ 0 s) ∷ ‵ (fdies slice l₂) ∷ ‵ (fat fullShare M-Head.mir l₁ 0 (Head-mach h)) ∷ ‵ (fdies M-Head.mir l₁) ∷ ‵ (froom M-Answer.mir l₀ 0) ∷ ‵ (fdies M-Answer.mir l₀) ∷ []
 
     abbrev Driven : Plan → Facts → ℕ → ℕ → List (Item 𝓤)
-    Driven p f v u = ‵ (froom (sliceTy oref′) l₂₂ 0) ∷ ‵ (fdies (sliceTy oref′) l₂₂) ∷ ‵ (froom oref′ l₂₁ 0) ∷ ‵ (fdies oref′ l₂₁) ∷ ‵ (froom M-Event.mir l₂₀ 0) ∷ ‵ (fdies M-Event.mir l₂₀) ∷ ‵ (froom (sliceTy ref′) l₁₉ 0) ∷ ‵ (fdies (sliceTy ref′) l₁₉) ∷ ‵ (froom ref′ l₁₈ 0) ∷ ‵ (fdies ref′ l₁₈) ∷ ‵ (froom M-Sent.mir l₁₇ 0) ∷ ‵ (fdies M-Sent.mir l₁₇) ∷ ‵ (froom M-Sender.mir l₁₆ 0) ∷ ‵ (fdies M-Sender.mir l₁₆) ∷ ‵ (froom (sliceTy oref′) l₁₅ 0) ∷ ‵ (fdies (sliceTy oref′) l₁₅) ∷ ‵ (froom oref′ l₁₄ 0) ∷ ‵ (fdies oref′ l₁₄) ∷ ‵ (froom (tyInt w64) l₁₃ 0) ∷ ‵ (fdies (tyInt w64) l₁₃) ∷ ‵ (froom (tyInt w64) l₁₂ 0) ∷ ‵ (fdies (tyInt w64) l₁₂) ∷ ‵ (froom M-Look.mir l₁₁ 0) ∷ ‵ (fdies M-Look.mir l₁₁) ∷ ‵ (froom (sliceTy look′) l₁₀ 0) ∷ ‵ (fdies (sliceTy look′) l₁₀) ∷ ‵ (froom look′ l₉ 0) ∷ ‵ (fdies look′ l₉) ∷ ‵ (fat fullShare (tyInt w64) l₈ 0 (vint w64 u)) ∷ ‵ (fdies (tyInt w64) l₈) ∷ ‵ (fat fullShare (tyInt w64) l₇ 0 (vint w64 v)) ∷ ‵ (fdies (tyInt w64) l₇) ∷ ‵ (fat fullShare M-Plan.mir l₆ 0 (Plan-mach p)) ∷ ‵ (fdies M-Plan.mir l₆) ∷ ‵ (fat fullShare M-Facts.mir l₅ 0 (Facts-mach f)) ∷ ‵ (fdies M-Facts.mir l₅) ∷ ‵ (fat fullShare octets l₄ 0 s′) ∷ ‵ (fdies octets l₄) ∷ ‵ (fat fullShare M-Request.mir l₃ 0 (Request-mach req)) ∷ ‵ (fdies M-Request.mir l₃) ∷ ‵ (fat fullShare slice l₂ 0 s) ∷ ‵ (fdies slice l₂) ∷ ‵ (fat fullShare M-Head.mir l₁ 0 (Head-mach h)) ∷ ‵ (fdies M-Head.mir l₁) ∷ ‵ (froom M-Answer.mir l₀ 0) ∷ ‵ (fdies M-Answer.mir l₀) ∷ []
+    Driven p f v u = ‵ (froom (sliceTy oref′) l₂₂ 0) ∷ ‵ (fdies (sliceTy oref′) l₂₂) ∷ ‵ (froom oref′ l₂₁ 0) ∷ ‵ (fdies oref′ l₂₁) ∷ ‵ (froom M-Event.mir l₂₀ 0) ∷ ‵ (fdies M-Event.mir l₂₀) ∷ ‵ (froom (sliceTy ref′) l₁₉ 0) ∷ ‵ (fdies (sliceTy ref′) l₁₉) ∷ ‵ (froom ref′ l₁₈ 0) ∷ ‵ (fdies ref′ l₁₈) ∷ ‵ (froom M-Sent.mir l₁₇ 0) ∷ ‵ (fdies M-Sent.mir l₁₇) ∷ ‵ (froom M-Sender.mir l₁₆ 0) ∷ ‵ (fdies M-Sender.mir l₁₆) ∷ ‵ (froom (sliceTy oref′) l₁₅ 0) ∷ ‵ (fdies (sliceTy oref′) l₁₅) ∷ ‵ (froom oref′ l₁₄ 0) ∷ ‵ (fdies oref′ l₁₄) ∷ ‵ (froom (tyInt w64) l₁₃ 0) ∷ ‵ (fdies (tyInt w64) l₁₃) ∷ ‵ (froom (tyInt w64) l₁₂ 0) ∷ ‵ (fdies (tyInt w64) l₁₂) ∷ ‵ (froom M-Look.mir l₁₁ 0) ∷ ‵ (fdies M-Look.mir l₁₁) ∷ ‵ (froom (sliceTy look′) l₁₀ 0) ∷ ‵ (fdies (sliceTy look′) l₁₀) ∷ ‵ (froom look′ l₉ 0) ∷ ‵ (fdies look′ l₉) ∷ ‵ (fat fullShare (tyInt w64) l₈ 0 (vint w64 u)) ∷ ‵ (fdies (tyInt w64) l₈) ∷ ‵ (fat fullShare (tyInt w64) l₇ 0 (vint w64 v)) ∷ ‵ (fdies (tyInt w64) l₇) ∷ ‵ (fat fullShare M-Plan.mir l₆ 0 (Plan-mach p)) ∷ ‵ (fdies M-Plan.mir l₆) ∷ ‵ (fat fullShare M-Facts.mir l₅ 0 (Facts-mach f)) ∷ ‵ (fdies M-Facts.mir l₅) ∷ ‵ (fat fullShare octets l₄ 0 s′) ∷ ‵ (fdies octets l₄) ∷ ‵ (fat fullShare M-Call.mir l₃ 0 (Call-mach req)) ∷ ‵ (fdies M-Call.mir l₃) ∷ ‵ (fat fullShare slice l₂ 0 s) ∷ ‵ (fdies slice l₂) ∷ ‵ (fat fullShare M-Head.mir l₁ 0 (Head-mach h)) ∷ ‵ (fdies M-Head.mir l₁) ∷ ‵ (froom M-Answer.mir l₀ 0) ∷ ‵ (fdies M-Answer.mir l₀) ∷ []
 
     -- from the last call on
     ends : (zs : List Link) (zs′ : List ℕ) (p : Plan) (f : Facts) (v u : ℕ) → Is Plan-row p (Plan-mach p ∷ []) → u < 2 ^ 64 → length zs ≡ n → length zs′ ≡ m → served (answerOf p u) zs zs′ ≡ serveOf h xs req os
@@ -291,11 +291,11 @@ module _ {M : Type 1} (𝓤 : URA M) (H : Heap 𝓤) (A : Atoms 𝓤) (W : Given
         leads r3 r2 (is-now Plan-row Plan-mach r3 w3 (e3 .value) (e3 .is)) (e3 .says ∙ ap (λ (t : Facts). judgeOf h t n m req) (e2 .says ∙ ap (factsOf xs) (e1 .says)))))))))))))
 
   module _ (𝓣 : Tables 𝓤 H) (known-looking : Triple 𝓤 (𝓣 .C #head-judging·look) (Looking 𝓤 H A mem run)) (known-survey : Triple 𝓤 (𝓣 .C #head-survey·survey) (Survey 𝓤 H A mem run)) (known-judge : Triple 𝓤 (𝓣 .C #head-judging·judge) (Judge 𝓤 H A mem run)) (known-sender-of : Triple 𝓤 (𝓣 .C #head-calls·sender-of) (SenderOf 𝓤 H A mem run)) (known-lead-of : Triple 𝓤 (𝓣 .C #head-calls·lead-of) (LeadOf 𝓤 H A mem run)) (known-note : Triple 𝓤 (𝓣 .C #head-table·note) (Note 𝓤 H A mem run)) (known-event-of : Triple 𝓤 (𝓣 .C #head-calls·event-of) (EventOf 𝓤 H A mem run)) (known-drive : Triple 𝓤 (𝓣 .C #head-table·drive) (Drive 𝓤 H A mem run)) (known-answer-of : Triple 𝓤 (𝓣 .C #head-calls·answer-of) (AnswerOf 𝓤 H A mem run)) where
-    walk : Room R n → Room u8 m → ent 𝓤 (onEntry 𝓤 H A serve.signature (κ, (κ′, tt)) (q, (q′, tt)) (h, (at-list b o γ xs, (req, (at-list b′ o′ γ′ os, tt)))) at) (WpFn 𝓤 H (𝓣 .C) (𝓣 .Λ) code.function (Head-mach h ∷ s ∷ Request-mach req ∷ s′ ∷ []) Post)
+    walk : Room R n → Room u8 m → ent 𝓤 (onEntry 𝓤 H A serve.signature (κ, (κ′, tt)) (q, (q′, tt)) (h, (at-list b o γ xs, (req, (at-list b′ o′ γ′ os, tt)))) at) (WpFn 𝓤 H (𝓣 .C) (𝓣 .Λ) code.function (Head-mach h ∷ s ∷ Call-mach req ∷ s′ ∷ []) Post)
     walk room room′ =
-        qed W ((‵ (flft κ q) ⊛ ‵ (flft κ′ q′) ⊛ ‵ ftrue) ∷ ‵ (owns (Head-row ∷ MutSlice (named 0) κ R ∷ Request-row ∷ MutSlice (named 1) κ′ u8 ∷ []) (h, (at-list b o γ xs, (req, (at-list b′ o′ γ′ os, tt)))) at) ∷ []) ∵ enter ! (𝓣 .C) (𝓣 .Λ) code.function (Head-mach h ∷ s ∷ Request-mach req ∷ s′ ∷ []) _ $
+        qed W ((‵ (flft κ q) ⊛ ‵ (flft κ′ q′) ⊛ ‵ ftrue) ∷ ‵ (owns (Head-row ∷ MutSlice (named 0) κ R ∷ Call-row ∷ MutSlice (named 1) κ′ u8 ∷ []) (h, (at-list b o γ xs, (req, (at-list b′ o′ γ′ os, tt)))) at) ∷ []) ∵ enter ! (𝓣 .C) (𝓣 .Λ) code.function (Head-mach h ∷ s ∷ Call-mach req ∷ s′ ∷ []) _ $
         alloc1 ! (λ l₀. alloc1 ! (λ l₁. alloc1 ! (λ l₂. alloc1 ! (λ l₃. alloc1 ! (λ l₄. alloc1 ! (λ l₅. alloc1 ! (λ l₆. alloc1 ! (λ l₇. alloc1 ! (λ l₈. alloc1 ! (λ l₉. alloc1 ! (λ l₁₀. alloc1 ! (λ l₁₁. alloc1 ! (λ l₁₂. alloc1 ! (λ l₁₃. alloc1 ! (λ l₁₄. alloc1 ! (λ l₁₅. alloc1 ! (λ l₁₆. alloc1 ! (λ l₁₇. alloc1 ! (λ l₁₈. alloc1 ! (λ l₁₉. alloc1 ! (λ l₂₀. alloc1 ! (λ l₂₁. alloc1 ! (λ l₂₂. alloc0 ! $ params1 ! $
-        pass1 ! (init ! 42 refl (Head-typed 𝓤 H A W h _ gh)) $ pass1 ! (init ! 40 refl (tt, (tt, (record { fits = room .0 }, tt)))) $ pass1 ! (init ! 38 refl (Request-typed 𝓤 H A W req _ gr)) $ pass1 ! (init ! 36 refl (tt, (tt, (record { fits = room′ .0 }, tt)))) $ pass0 ! $
+        pass1 ! (init ! 42 refl (Head-typed 𝓤 H A W h _ gh)) $ pass1 ! (init ! 40 refl (tt, (tt, (record { fits = room .0 }, tt)))) $ pass1 ! (init ! 38 refl (Call-typed 𝓤 H A W req _ gr)) $ pass1 ! (init ! 36 refl (tt, (tt, (record { fits = room′ .0 }, tt)))) $ pass0 ! $
         -- [the locals; the tokens (46); what head, links, request and out own]
         move ! (47 ∷ []) $ fsplit ! $ drop ! $ fsplit ! $ move ! (1 ∷ []) $ fsplit ! $ drop ! $ fsplit ! $ move ! (49 ∷ []) $ split ! $ move ! (1 ∷ []) $ split ! $
         -- [out's token; true; links' token; what out owns; true; what links owns; the locals]
@@ -305,12 +305,12 @@ module _ {M : Type 1} (𝓤 : URA M) (H : Heap 𝓤) (A : Atoms 𝓤) (W : Given
 module _ {M : Type 1} (𝓤 : URA M) (H : Heap 𝓤) (A : Atoms 𝓤) (W : Given 𝓤 H A) (mem : Memory → SProp 𝓤) (run : Routine → Fun 𝓤) (𝓣 : Tables 𝓤 H) (known-looking : Triple 𝓤 (𝓣 .C #head-judging·look) (Looking 𝓤 H A mem run)) (known-survey : Triple 𝓤 (𝓣 .C #head-survey·survey) (Survey 𝓤 H A mem run)) (known-judge : Triple 𝓤 (𝓣 .C #head-judging·judge) (Judge 𝓤 H A mem run)) (known-sender-of : Triple 𝓤 (𝓣 .C #head-calls·sender-of) (SenderOf 𝓤 H A mem run)) (known-lead-of : Triple 𝓤 (𝓣 .C #head-calls·lead-of) (LeadOf 𝓤 H A mem run)) (known-note : Triple 𝓤 (𝓣 .C #head-table·note) (Note 𝓤 H A mem run)) (known-event-of : Triple 𝓤 (𝓣 .C #head-calls·event-of) (EventOf 𝓤 H A mem run)) (known-drive : Triple 𝓤 (𝓣 .C #head-table·drive) (Drive 𝓤 H A mem run)) (known-answer-of : Triple 𝓤 (𝓣 .C #head-calls·answer-of) (AnswerOf 𝓤 H A mem run)) where
   serve-walks : Walks 𝓤 H A serve.ended stayed (WpFn 𝓤 H (𝓣 .C) (𝓣 .Λ) code.function) (serve.clauses 𝓤 H A mem run)
   serve-walks = walked 𝓤 H A serve.ended stayed (serve.clauses 𝓤 H A mem run) (WpFn 𝓤 H (𝓣 .C) (𝓣 .Λ) code.function)
-      (λ κs. ((λ t. Head-mach t ∷ []), (slice-vals, ((λ t. Request-mach t ∷ []), (slice-vals, tt))))) (λ κs. (Head-tells, (mut-slice-tells (named 0) (κs .0) R, (Request-tells, (mut-slice-tells (named 1) (κs .1 .0) u8, tt)))))
+      (λ κs. ((λ t. Head-mach t ∷ []), (slice-vals, ((λ t. Call-mach t ∷ []), (slice-vals, tt))))) (λ κs. (Head-tells, (mut-slice-tells (named 0) (κs .0) R, (Call-tells, (mut-slice-tells (named 1) (κs .1 .0) u8, tt)))))
       (λ κs qs bounds a g are. via 𝓤 _ (fst∗ 𝓤 _ (emp 𝓤))
       (walk 𝓤 H A W mem run (κs .0) (κs .1 .0) (qs .0) (qs .1 .0) (a .0) (are .0) (a .1 .0 .ptr .0) (a .1 .0 .ptr .1) (a .1 .0 .name) (a .1 .0 .now) (a .1 .1 .0) (are .1 .1 .0) (a .1 .1 .1 .0 .ptr .0) (a .1 .1 .1 .0 .ptr .1) (a .1 .1 .1 .0 .name) (a .1 .1 .1 .0 .now) 𝓣 known-looking known-survey known-judge known-sender-of known-lead-of known-note known-event-of known-drive known-answer-of (are .1 .0 .0 .1) (are .1 .1 .1 .0 .0 .1)))
 
   serve-meets : Meets 𝓤 H A serve.signature (WpFn 𝓤 H (𝓣 .C) (𝓣 .Λ) code.function) (serve.spec 𝓤 H A mem run)
-  serve-meets = walk-meets 𝓤 H A serve.ended stayed W (goes-none 𝓤 H A W 2 (λ _. Head-row) yes (λ κs x f. refl), (goes-slice 𝓤 H A W 2 0 tt (plain (λ _. R)), (goes-none 𝓤 H A W 2 (λ _. Request-row) yes (λ κs x f. refl), (goes-slice 𝓤 H A W 2 1 tt (plain (λ _. u8)), tt)))) (serve.clauses 𝓤 H A mem run)
+  serve-meets = walk-meets 𝓤 H A serve.ended stayed W (goes-none 𝓤 H A W 2 (λ _. Head-row) yes (λ κs x f. refl), (goes-slice 𝓤 H A W 2 0 tt (plain (λ _. R)), (goes-none 𝓤 H A W 2 (λ _. Call-row) yes (λ κs x f. refl), (goes-slice 𝓤 H A W 2 1 tt (plain (λ _. u8)), tt)))) (serve.clauses 𝓤 H A mem run)
       (WpFn 𝓤 H (𝓣 .C) (𝓣 .Λ) code.function) (WpFn-mono 𝓤 H (W .laws) 𝓣 code.function) serve-walks
 
 pub serve-spec : {M : Type 1} → stated.statement M
