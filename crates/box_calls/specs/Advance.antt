@@ -1,4 +1,4 @@
--- Rules A1 to A4 (docs/DECISIONS.md, "Advance"), at the box: 13 and 9 in that order, and else single ticks (`ticks` of laws' Jump).
+-- R191 to R195, advance, at the box: 13 and 9 in that order, and else single ticks (`ticks` of laws' Jump).
 -- Assumes nothing.
 use Prim.Native.Nat.{ℕ}
 use mathlib.Core.Bool.{Bool, _&&_}

@@ -1,4 +1,4 @@
--- Rules A1 to A4 (docs/DECISIONS.md, "Advance"), at the box: what the call is worth. It is the iterated single ticks by its promise (`floorbox` Advance).
+-- R191 to R195, advance, at the box: what the call is worth. It is the iterated single ticks by its promise (`floorbox` Advance).
 -- Assumes nothing.
 use Prim.Native.Nat.{ℕ, zero, suc, _+_, _≤_}
 use mathlib.Core.Path.{_≡_, refl}

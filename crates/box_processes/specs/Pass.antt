@@ -1,4 +1,4 @@
--- Rule A2, "Advance", of the processes: ticks at which no timer rings and activation has nothing to choose from.
+-- R193, advance, of the processes: ticks at which no timer rings and activation has nothing to choose from.
 -- Assumes nothing.
 use Prim.Native.Nat.{ℕ, min}
 use mathlib.Core.Bool.{Bool, cond, _&&_}

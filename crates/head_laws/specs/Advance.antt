@@ -1,4 +1,4 @@
--- Rules A1 to A4, "Advance", at the head: so many single ticks, stopping after the first that hands out a frame, are the ticks before the first
+-- R191 to R195, advance, at the head: so many single ticks, stopping after the first that hands out a frame, are the ticks before the first
 -- link rings, passed at once, and one more.
 -- Assumes nothing.
 use Prim.Native.Nat.{ℕ, zero, suc, _+_, _-_, _*_, _/_, _≤_, _<_, min}

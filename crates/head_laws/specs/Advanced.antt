@@ -1,4 +1,4 @@
--- Rules A1 to A4 (docs/DECISIONS.md, "Advance"), at the head: 13, 12 and 9 in that order, and else single ticks (`ticks` of laws' Jump). That the
+-- R191 to R195, advance, at the head: 13, 12 and 9 in that order, and else single ticks (`ticks` of laws' Jump). That the
 -- head's call answers so is `advance-page` (Advance).
 -- Assumes nothing.
 use Prim.Native.Nat.{ℕ}

@@ -1,4 +1,4 @@
--- Rules A2 to A4 (docs/DECISIONS.md, "Advance"), over any end: ticks one after the other, as many as are asked for, none behind one that hands
+-- R193 to R195, advance, over any end: ticks one after the other, as many as are asked for, none behind one that hands
 -- something out and none that would be refused. And the law of the jump: ticks that surely hand out nothing are passed in one step.
 -- Assumes nothing.
 use Prim.Native.Nat.{ℕ, zero, suc, _+_, _-_, _≤_, _<_}
