@@ -1,5 +1,4 @@
--- Document 01, "Activation": "remove past grants; take the smallest distance, earliest arrival first; if its length is below
--- 32 + sync + 42 remove it and repeat". The list is a list, in order of arrival.
+-- Rules R85, R126 to R128, R132: the choice of a grant. The list is a list, in order of arrival.
 -- Assumes nothing.
 use Prim.Native.Nat.{ℕ, zero, suc}
 use mathlib.Core.Bool.{Bool, false, cond, _&&_, _||_}
@@ -10,7 +9,7 @@ use Rattle.box_grants.specs.declared.Entry.{Entry}
 use Rattle.box_grants.specs.declared.Chosen.{Chosen}
 use Rattle.box_grants.specs.declared.Chosen.the-variants.{Nothing, Due}
 
--- in the list: start and length both match
+-- R85: start and length both match
 abbrev pub same : Entry → Entry → Bool
 same a b = eqb (a .start .0) (b .start .0) && eqb (a .length .0) (b .length .0)
 
@@ -18,17 +17,17 @@ abbrev pub holds : Entry → List Entry → Bool
 holds e [] = false
 holds e (x ∷ l) = same e x || holds e l
 
--- remove past grants
+-- R126
 abbrev pub ahead : ℕ → List Entry → List Entry
 ahead now [] = []
 ahead now (e ∷ l) = cond (isPast now (e .start .0)) (ahead now l) (e ∷ ahead now l)
 
--- take the smallest distance, earliest arrival first: of e and, after it, l
+-- R127: of e and, after it, l
 abbrev pub nearest : ℕ → Entry → List Entry → Entry
 nearest now e [] = e
 nearest now e (x ∷ l) = nearest now (cond (nearer now (x .start .0) (e .start .0)) x e) l
 
--- of equal entries the earliest is taken out
+-- R132: of equal ones the earliest
 abbrev pub remove : Entry → List Entry → List Entry
 remove e [] = []
 remove e (x ∷ l) = cond (same e x) l (x ∷ remove e l)
@@ -38,14 +37,14 @@ pub record Left : Type 0 where
   pub list : List Entry
   pub chosen : Chosen
 
--- take the nearest of a list that has no past grants; if it is too short remove it and go on
+-- R127, R128: of a list that has no past grants
 abbrev pub serve : ℕ → ℕ → List Entry → (List Entry → Left) → Left
 serve now need [] again = record { list = []; chosen = Nothing }
 serve now need (e ∷ l) again =
     let n = nearest now e l in
     cond (leb need (n .length .0)) (record { list = e ∷ l; chosen = Due n }) (again (remove n (e ∷ l)))
 
--- and repeat, as often as there are grants
+-- R128: again, as often as there are grants
 unfoldable pub settle : ℕ → ℕ → ℕ → List Entry → Left
 settle zero now need l = record { list = l; chosen = Nothing }
 settle (suc k) now need l = serve now need l (λ rest. settle k now need rest)

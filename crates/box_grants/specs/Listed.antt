@@ -1,4 +1,4 @@
--- The list in its array of sixteen, and the steps that the code makes on it.
+-- Rules R24, R124, R126 to R128: the list in its array of sixteen, and the choice over it.
 -- Assumes nothing.
 use Prim.Native.Nat.{ℕ, _+_, _-_, min}
 use mathlib.Core.Bool.{true, false, cond}

@@ -1,4 +1,4 @@
--- Document 01, "Sound box: at most 16 grants". A length is sixteen bits on the wire, so a longer one came from no frame and is unsound.
+-- Rules R80, R87: a sound list.
 -- Assumes nothing.
 use mathlib.Core.Bool.{Bool, true, _&&_}
 use mathlib.Core.List.{List, [], _∷_}

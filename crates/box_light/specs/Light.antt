@@ -1,4 +1,4 @@
--- Document 01, "Discovery GATE" and "Activation": the phases of the transmitter, and their timers.
+-- Rules R108 to R112, R129 to R134: the phases of the transmitter, and their timers.
 -- Assumes nothing.
 use Prim.Native.Nat.{_+_, _-_, _%_, _^_}
 use mathlib.Core.Bool.{Bool, true, false, cond}
@@ -9,15 +9,15 @@ use Rattle.clock.specs.declared.Timer.{Timer}
 use Rattle.box_light.specs.declared.Light.{Light}
 use Rattle.box_light.specs.declared.Light.the-variants.{Rest, Before, Random, Warming, Asking, Due, Lit, Open}
 
--- laser on for 32 + sync; a sync time in range does not wrap
+-- R110, R133: the time before transmission; a sync time in range does not wrap
 unfoldable pub laserOnFor : Quanta → Timer
 laserOnFor sync = record { left = (laserOn + sync .0) % 2 ^ 32 }
 
--- transmission for the rest of the length
+-- R133: what is left of the length
 unfoldable pub restOf : Quanta → Quanta → Timer
 restOf length sync = record { left = length .0 - (laserOn + sync .0) }
 
--- the random wait; a wait of 0 is passed in the same call
+-- R108
 unfoldable pub randomly : Quanta → Quanta → Light
 randomly random sync = cond (eqb (random .0) 0) (Warming (laserOnFor sync)) (Random (record { left = random .0 }) sync)
 

@@ -1,4 +1,4 @@
--- R193, advance, of the transmitter: ticks at which its timer does not ring take so many from it.
+-- Rule R193, of the transmitter: ticks at which its timer does not ring take so many from it.
 -- Assumes nothing.
 use Prim.Native.Nat.{ℕ}
 use Rattle.clock.specs.Timers.{passedOf as timerPassed, quietOf as timerQuiet}

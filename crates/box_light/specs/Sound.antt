@@ -1,5 +1,4 @@
--- Document 01, "Sound box", of the transmitter: "every running timer at least 1 and no more than its longest setting (a normal grant's
--- wait: 2^31 - 1) .. a normal grant being waited for is in the list, and one waited for or lit has the needed length for its held sync".
+-- Rules R82, R83, R85 to R87: a sound transmitter.
 -- Assumes nothing.
 use Prim.Native.Nat.{ℕ, _+_, _-_, _^_}
 use mathlib.Core.Bool.{Bool, true, _&&_}
@@ -14,11 +13,11 @@ use Rattle.box_light.specs.Light.{laserOnFor}
 use Rattle.box_light.specs.declared.Light.{Light}
 use Rattle.box_light.specs.declared.Light.the-variants.{Rest, Before, Random, Warming, Asking, Due, Lit, Open}
 
--- a random wait that a grant of sixteen bits can hold beside what it needs
+-- R83: a random wait that a grant can hold beside what it needs
 unfoldable pub waitFits : ℕ → Quanta → Bool
 waitFits n sync = leb (needed (sync .0) + n) 65535
 
--- a grant of sixteen bits that has the needed length
+-- R86, R87: a grant in range that serves
 unfoldable pub served : Quanta → Quanta → Bool
 served length sync = leb (needed (sync .0)) (length .0) && leb (length .0) 65535
 

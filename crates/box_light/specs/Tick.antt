@@ -1,4 +1,4 @@
--- Document 01, "Discovery GATE" and "Activation": what follows in the transmitter when a timer has rung.
+-- Rules R108 to R112, R129 to R134: what follows in the transmitter when its timer has rung.
 -- Assumes nothing.
 use mathlib.Core.Bool.{cond}
 use Rattle.clock.specs.Numbers.{quantaOf}
@@ -11,19 +11,19 @@ use Rattle.box_light.specs.declared.Beam.the-variants.{Quiet, Window, St
 
 abbrev pub after : Light → LightTicked
 after Rest = record { light = Rest; beam = Quiet }
--- wait the distance, then the random wait
+-- R108
 after (Before t random sync) = record { light = randomly random sync; beam = Quiet }
--- then laser on for 32 + sync
+-- R110: the laser goes on
 after (Random t sync) = record { light = Warming (laserOnFor sync); beam = Quiet }
--- then transmission enabled for 42
+-- R110, R111: transmission is enabled
 after (Warming t) = record { light = Asking (record { left = quantaOf 60 }); beam = Window }
--- then dark and at rest without a notice
+-- R112
 after (Asking t) = record { light = Rest; beam = Quiet }
--- wait the distance; then laser on, removed from the list
+-- R132
 after (Due t entry sync) = record { light = Rest; beam = Start entry sync }
--- 32 + sync ticks; then transmission for the rest of the length
+-- R133: open
 after (Lit t length sync) = record { light = Open (restOf length sync); beam = Opened }
--- with notices at open and close; then dark and back to rest
+-- R133, R134: close
 after (Open t) = record { light = Rest; beam = Closed }
 
 unfoldable pub tickOf : Light → LightTicked

@@ -1,5 +1,4 @@
--- Document 01, "Steps of the box": the states, and what entering one does. "Entering WAIT .. stops all timers. Entering any other state
--- stops each of the wait, watchdog and report timers it doesn't run."
+-- Rules R88 to R90, R95, R97, R111, R114, R122: the states of a registration, and what entering one does.
 -- Assumes nothing.
 use Prim.Native.Nat.{ℕ}
 use mathlib.Core.Bool.{Bool, true, false}
@@ -13,11 +12,11 @@ use Rattle.box_registration.specs.declared.Registration.{Registration}
 abbrev pub off : Timer
 off = record { left = 0 }
 
--- a state that runs no timer; port and sync stay what they last were
+-- R88, R95, R97: a state that runs no timer; port and sync stay
 abbrev pub entering : State → Registration → Registration
 entering s r = record { state = s; wait = off; watchdog = off; report = off; port = r .port; sync = r .sync }
 
--- fresh: WAIT
+-- R90
 abbrev pub fresh : Registration
 fresh = record { state = Wait; wait = off; watchdog = off; report = off; port = 0; sync = record { 0 = 0 } }
 
@@ -27,11 +26,11 @@ waiting r = entering Wait r
 abbrev pub registering : Registration → Registration
 registering r = entering Registering r
 
--- REGISTER_REQ, wait timer
+-- R111
 abbrev pub requesting : Registration → Registration
 requesting r = record { state = RegisterReq; wait = record { left = wait }; watchdog = off; report = off; port = r .port; sync = r .sync }
 
--- REGISTERED, port and sync kept, watchdog and report timer started
+-- R114
 abbrev pub registered : ℕ → Quanta → Registration
 registered port sync =
     record {
@@ -43,7 +42,7 @@ registered port sync =
       sync = sync;
     }
 
--- a normal GATE restarts the watchdog
+-- R122
 abbrev pub heard : Registration → Registration
 heard r =
     record { state = r .state; wait = r .wait; watchdog = record { left = watchdog }; report = r .report; port = r .port; sync = r .sync }

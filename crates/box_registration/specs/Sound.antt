@@ -1,6 +1,4 @@
--- Document 01, "Sound box": "every running timer at least 1 and no more than its longest setting; REGISTER_REQ runs the wait timer,
--- REGISTERED the watchdog and report timer, other states none of these". A sync time is sixteen bits on the wire, so a longer one came
--- from no frame and is unsound.
+-- Rules R81, R82, R87: a sound registration.
 -- Assumes nothing.
 use mathlib.Core.Bool.{Bool, _&&_}
 use lib.Dec.{leb}

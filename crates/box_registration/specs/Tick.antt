@@ -1,4 +1,4 @@
--- Document 01, "Tick": the registration timer, then the report timer, each judged on the state so far.
+-- Rules R120, R136 to R138: a tick of the registration, its own timer first, then the report timer.
 -- Assumes nothing.
 use mathlib.Core.Bool.{cond}
 use Rattle.clock.specs.Numbers.{periodic}
@@ -20,13 +20,13 @@ withWatchdog r t = record { state = r .state; wait = r .wait; watchdog = t; repo
 abbrev withReport : Registration → Timer → Registration
 withReport r t = record { state = r .state; wait = r .wait; watchdog = r .watchdog; report = t; port = r .port; sync = r .sync }
 
--- the wait running out: REGISTERING
+-- R120
 unfoldable pub tickWait : Registration → Ticked
 tickWait r =
     let t = ticked (r .wait) in
     cond (t .rang) (record { registration = registering r; bell = Retry }) (record { registration = withWait r (t .timer); bell = Quiet })
 
--- the periodic REPORT, which restarts its timer
+-- R138
 unfoldable pub tickReport : Registration → Ticked
 tickReport r =
     let t = ticked (r .report) in
@@ -34,7 +34,7 @@ tickReport r =
     (record { registration = withReport r (record { left = periodic }); bell = Report })
     (record { registration = withReport r (t .timer); bell = Quiet })
 
--- the watchdog's end: WAIT; else the report timer
+-- R137: the watchdog leads to WAIT; else the report timer has its turn
 unfoldable pub tickWatchdog : Registration → Ticked
 tickWatchdog r =
     let t = ticked (r .watchdog) in

@@ -1,4 +1,4 @@
--- The notices and frames of a reply, each in order: at most four notices, at most two frames.
+-- Rule R100: the notices and frames of a reply, in order.
 -- Assumes nothing.
 use Prim.Native.Nat.{ℕ}
 use mathlib.Core.Bool.{Bool, true, false, cond}

@@ -1,4 +1,4 @@
--- Document 01, "Numbers", and what its steps make of them. Lengths are in quanta.
+-- Rules R17 to R23, R27 to R29, R109, R192: the numbers, and what is made of them. Lengths are in quanta.
 -- Assumes nothing.
 use Prim.Native.Nat.{ℕ, _+_, _-_, _/_, _%_}
 use mathlib.Core.Bool.{Bool, _&&_}
@@ -7,50 +7,50 @@ use lib.IntN.{pos}
 use lib.Signed.{leZ}
 use Rattle.clock.specs.Counts.{distance}
 
--- laser-on time 32
+-- R17
 abbrev pub laserOn : ℕ
 laserOn = 32
 
--- watchdog (omp_timer) 62,500,000 ticks
+-- R18
 abbrev pub watchdog : ℕ
 watchdog = 62500000
 
--- periodic GATE, periodic REPORT: 3,125,000 each
+-- R19, R20
 abbrev pub periodic : ℕ
 periodic = 3125000
 
--- wait for REGISTER, wait for REGISTER_ACK: 3,125,000 each
+-- R21, R22
 abbrev pub wait : ℕ
 wait = 3125000
 
--- furthest grant start: distance 62,500,000
+-- R23
 abbrev pub furthest : ℕ
 furthest = 62500000
 
--- a call advances by at most 65,536 ticks
+-- R192: the most ticks of one call
 abbrev pub furthestAdvance : ℕ
 furthestAdvance = 65536
 
--- and by at least one
+-- R192: from one on
 unfoldable pub inReach : ℕ → Bool
 inReach n = leb 1 n && leb n furthestAdvance
 
--- a start is in range if its distance from now is in 0 .. 62,500,000
+-- R29
 unfoldable pub startInRange : ℕ → ℕ → Bool
 startInRange now start = leZ (pos 0) (distance now start) && leZ (distance now start) (pos furthest)
 
--- a frame of n octets needs (n + 24) / 2 quanta, rounded up: one is added, since `/` rounds down
+-- R27; one is added, since `/` rounds down
 abbrev pub quantaOf : ℕ → ℕ
 quantaOf n = (n + 24 + 1) / 2
 
--- needed length: laser-on time, sync, and a frame of 60 octets, 42
+-- R28
 abbrev pub needed : ℕ → ℕ
 needed sync = laserOn + sync + quantaOf 60
 
--- a length serves when it is not below the needed one
+-- R28: the length serves
 abbrev pub serves : ℕ → ℕ → Bool
 serves sync length = leb (needed sync) length
 
--- the random wait, for a length that serves: the caller's random number modulo (length - needed + 1)
+-- R109, for a length that serves
 abbrev pub randomWait : ℕ → ℕ → ℕ → ℕ
 randomWait random length sync = random % (length - needed sync + 1)

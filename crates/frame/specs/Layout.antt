@@ -1,4 +1,4 @@
--- Document 01, "Frames": the sixty octets of each message, most significant octet first.
+-- Rules R30 to R44: the sixty octets of each message.
 -- Assumes nothing.
 use Prim.Native.Nat.{ℕ, _+_, _-_, _*_}
 use mathlib.Core.Bool.{Bool, true, false, cond}
@@ -15,16 +15,17 @@ use Rattle.frame.specs.declared.Body.{Body}
 use Rattle.frame.specs.declared.Body.the-variants.{Gate, Discovery, Report, RegisterReq, Register, RegisterAck}
 use Rattle.frame.specs.declared.Message.{Message}
 
--- 60 octets: destination 6, source 6, type 0x8808, opcode 2, timestamp 4, body 40
+-- R30: the first twenty
 abbrev pub headerOf : ℕ → ℕ → ℕ → ℕ → List ℕ
 headerOf destination source opcode timestamp =
     bytes 6 destination ++ bytes 6 source ++ bytes 2 0x8808 ++ bytes 2 opcode ++ bytes 4 timestamp
 
--- unused body octets are pad: written zero, ignored when read
+-- R30, R36: a body of forty, the pad zeros
 abbrev pub frameOf : ℕ → ℕ → ℕ → ℕ → List ℕ → List ℕ
 frameOf destination source opcode timestamp body =
     headerOf destination source opcode timestamp ++ (body ++ replicate (40 - length body) 0)
 
+-- R31 to R35
 abbrev pub opcodeOf : Body → ℕ
 opcodeOf (Gate grants) = 0x0002
 opcodeOf (Discovery grant sync) = 0x0002
@@ -33,7 +34,7 @@ opcodeOf (RegisterReq flag pending) = 0x0004
 opcodeOf (Register port flag sync pending) = 0x0005
 opcodeOf (RegisterAck flag port sync) = 0x0006
 
--- GATE: the grants, in order
+-- R37: none to four grants
 abbrev pub listed : Grants → List Grant
 listed None = []
 listed (One a) = a ∷ []
@@ -41,16 +42,16 @@ listed (Two a b) = a ∷ b ∷ []
 listed (Three a b c) = a ∷ b ∷ c ∷ []
 listed (Four a b c d) = a ∷ b ∷ c ∷ d ∷ []
 
--- force report, a bit for each grant, the first one's lowest
+-- R39: a bit for each grant, the first one's lowest
 abbrev pub forceBits : List Grant → ℕ
 forceBits [] = 0
 forceBits (g ∷ gs) = cond (g .force) 1 0 + 2 * forceBits gs
 
--- one octet: bits 0 to 2 number of grants; bit 3 discovery; bits 4 to 7 force report for grants 1 to 4
+-- R37 to R39
 unfoldable pub firstOctet : Bool → List Grant → ℕ
 firstOctet discovery gs = length gs + 8 * cond discovery 1 0 + 16 * forceBits gs
 
--- then per grant start 4 and length 2
+-- R31: for each grant
 abbrev pub grantOctets : Grant → List ℕ
 grantOctets g = bytes 4 (g .start .0) ++ bytes 2 (g .length .0)
 
@@ -61,42 +62,42 @@ perGrant (g ∷ gs) = grantOctets g ++ perGrant gs
 abbrev pub gateOctets : Bool → List Grant → List ℕ
 gateOctets discovery gs = bytes 1 (firstOctet discovery gs) ++ perGrant gs
 
--- REGISTER_REQ: flag (1 register, 3 deregister)
+-- R42
 abbrev pub registerReqFlag : RegisterReqFlag → ℕ
 registerReqFlag RegisterReqFlag.Register = 1
 registerReqFlag RegisterReqFlag.Deregister = 3
 
--- REGISTER: flag (1 reregister, 2 deregister, 3 ack, 4 nack)
+-- R43
 abbrev pub registerFlag : RegisterFlag → ℕ
 registerFlag RegisterFlag.Reregister = 1
 registerFlag RegisterFlag.Deregister = 2
 registerFlag RegisterFlag.Ack = 3
 registerFlag RegisterFlag.Nack = 4
 
--- REGISTER_ACK: flag (0 nack, 1 ack)
+-- R44
 abbrev pub registerAckFlag : RegisterAckFlag → ℕ
 registerAckFlag RegisterAckFlag.Nack = 0
 registerAckFlag RegisterAckFlag.Ack = 1
 
 -- the body's octets before its pad
 unfoldable pub bodyOctets : Body → List ℕ
--- GATE: as above; a discovery GATE has exactly one grant and after it sync time 2
+-- R31, R38
 bodyOctets (Gate grants) = gateOctets false (listed grants)
 bodyOctets (Discovery grant sync) = gateOctets true (grant ∷ []) ++ bytes 2 (sync .0)
--- REPORT: number of queue sets 1; here only 0
+-- R32, R41
 bodyOctets Report = bytes 1 0
--- REGISTER_REQ: flag 1, pending grants 1
+-- R33
 bodyOctets (RegisterReq flag pending) = bytes 1 (registerReqFlag flag) ++ bytes 1 pending
--- REGISTER: port 2, flag 1, sync time 2, echoed pending grants 1
+-- R34
 bodyOctets (Register port flag sync pending) =
     bytes 2 port ++ bytes 1 (registerFlag flag) ++ bytes 2 (sync .0) ++ bytes 1 pending
--- REGISTER_ACK: flag 1, echoed port 2, echoed sync time 2
+-- R35
 bodyOctets (RegisterAck flag port sync) = bytes 1 (registerAckFlag flag) ++ bytes 2 port ++ bytes 2 (sync .0)
 
 unfoldable pub encode : Message → List ℕ
 encode m =
     frameOf (m .destination .0) (m .source .0) (opcodeOf (m .body)) (m .timestamp .0) (bodyOctets (m .body))
 
--- a frame with its pad zeroed, where k octets stand before the pad
+-- R51: a frame with its pad zeroed, where k octets stand before the pad
 abbrev pub zeroPad : ℕ → List ℕ → List ℕ
 zeroPad k l = take k l ++ replicate (length l - k) 0

@@ -1,4 +1,4 @@
--- Document 01, "Frames": what is in range. A number is as long as its field; a length is sixteen bits on the wire.
+-- Rules R45, R47: which messages are in range, those that have a frame. A number is as long as its field.
 -- Assumes nothing.
 use Prim.Native.Nat.{_^_, _<_}
 use mathlib.Core.List.{List, [], _∷_}

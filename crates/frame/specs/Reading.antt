@@ -1,4 +1,4 @@
--- Document 01, "Reply numbers", of reading: "Reading tests 1, 2, 3, 4"; and "Frames": when a field is in range.
+-- Rules R37 to R44, R50, R51, R67: what reading answers.
 -- Assumes nothing.
 use Prim.Native.Nat.{ℕ, _+_, _/_, _%_, _^_}
 use mathlib.Core.Path.{_≡_}
@@ -20,8 +20,7 @@ abbrev pub oneOf : ℕ → List ℕ → Bool
 oneOf f [] = false
 oneOf f (x ∷ xs) = eqb f x || oneOf f xs
 
--- GATE: f is the first octet; bits 0 to 2 number of grants, 0 to 4; bit 3 discovery, which has exactly one grant;
--- a force bit for an absent grant is out of range, so with n grants no bit from bit n + 4 on is set
+-- R37 to R39, of the first octet f: with n grants no bit from bit n + 4 on is set
 unfoldable pub gateInRange : ℕ → Bool
 gateInRange f =
     let clear = eqb (f / 2 ^ (f % 8 + 4)) 0 in
@@ -32,15 +31,16 @@ unfoldable pub bodyInRange : ℕ → List ℕ → Bool
 bodyInRange opcode l =
     -- GATE
     cond (eqb opcode 2) (gateInRange (fieldOf l 20 1))
-    -- REPORT: number of queue sets; here only 0
+    -- R41
     (cond (eqb opcode 3) (oneOf (fieldOf l 20 1) (0 ∷ []))
-    -- REGISTER_REQ: flag (1 register, 3 deregister)
+    -- R42
     (cond (eqb opcode 4) (oneOf (fieldOf l 20 1) (1 ∷ 3 ∷ []))
-    -- REGISTER: flag (1 reregister, 2 deregister, 3 ack, 4 nack), after the port
+    -- R43: after the port
     (cond (eqb opcode 5) (oneOf (fieldOf l 22 1) (1 ∷ 2 ∷ 3 ∷ 4 ∷ []))
-    -- REGISTER_ACK: flag (0 nack, 1 ack)
+    -- R44
     (oneOf (fieldOf l 20 1) (0 ∷ 1 ∷ [])))))
 
+-- R67, with R53 to R56
 abbrev pub readingTests : List ℕ → List Test
 readingTests l =
     Size unless eqb (length l) 60
@@ -49,12 +49,12 @@ readingTests l =
     ∷ Range unless bodyInRange (fieldOf l 14 2) l
     ∷ []
 
--- a frame carries a message: with its pad zeroed, it is what the layout has for the message
+-- R51: a frame carries a message if, with its pad zeroed, it is what the layout has for the message
 pub record Carries (l : List ℕ) (m : Message) : Type 0 where
   pub valid : Valid m
   pub octets : zeroPad (20 + length (bodyOctets (m .body))) l ≡ encode m
 
--- on refusal the message is the blank one
+-- R50: refused, the message is blank
 abbrev pub refusal : Reply → Reading
 refusal r =
     record {

@@ -1,10 +1,9 @@
--- Document 01, "Steps of the box" and "Steps of the head": which way each message goes.
+-- Rules R57, R102, R176: which way each message goes.
 -- Assumes nothing.
 use mathlib.Core.Bool.{Bool, true, false}
 use Rattle.frame.specs.declared.Body.{Body}
 use Rattle.frame.specs.declared.Body.the-variants.{Gate, Discovery, Report, RegisterReq, Register, RegisterAck}
 
--- REGISTER_REQ, REGISTER_ACK and REPORT are 5 at the box; GATE and REGISTER at the head
 abbrev pub goesToHead : Body → Bool
 goesToHead (Gate grants) = false
 goesToHead (Discovery grant sync) = false
