@@ -1,4 +1,4 @@
--- Document 01, "Activation", at the end of every call.
+-- Rules R125 to R132: activation.
 -- Assumes nothing.
 use mathlib.Core.Bool.{cond, _&&_}
 use lib.Dec.{eqb}
@@ -18,11 +18,11 @@ use Rattle.box_registration.specs.Registration.{isRegistered}
 use Rattle.box_processes.specs.Parts.{withList, withLight}
 use Rattle.box_processes.specs.declared.Processes.{Processes}
 
--- laser on, removed from the list
+-- R132
 unfoldable pub lightUp : Processes → Entry → Quanta → Processes
 lightUp p e sync = withLight (withList p (packed (remove e (listOf (p .list))))) (Light.Lit (laserOnFor sync) (e .length) sync)
 
--- wait the distance; waits of 0 are passed in the same call
+-- R129
 unfoldable pub begin : Processes → Entry → Quanta → Quanta → Processes
 begin p e sync wait = cond (eqb (wait .0) 0) (lightUp p e sync) (withLight p (Light.Due (record { left = wait .0 }) e sync))
 
@@ -30,12 +30,12 @@ abbrev pub headFor : Processes → Entry → Quanta → Reach → Processes
 headFor p e sync Past = p
 headFor p e sync (Ahead wait) = begin p e sync wait
 
--- the sync held at this choice serves this grant to its end
+-- R130
 abbrev pub serve : Chosen → Processes → Processes
 serve Nothing p = p
 serve (Due e) p = headFor p e (p .registration .sync) (reach (p .count .0) (e .start .0))
 
--- when at rest and REGISTERED
+-- R125
 unfoldable pub activate : Processes → Processes
 activate p =
     let c = chooseOf (p .count .0) (needed (p .registration .sync .0)) (p .list) in

@@ -1,4 +1,4 @@
--- R191 to R195, advance, at the box: 13 and 9 in that order, and else single ticks (`ticks` of laws' Jump).
+-- Rules R191 to R195, at the box: 13 and 9 in that order, and else single ticks (`ticks` of laws).
 -- Assumes nothing.
 use Prim.Native.Nat.{ℕ}
 use mathlib.Core.Bool.{Bool, _&&_}

@@ -1,4 +1,4 @@
--- Document 01, "Reply numbers" and "Steps of the box": what a call of the box is answered with.
+-- Rules R13, R69, R99, R100, R125: what a call of the box is answered with.
 -- Assumes nothing.
 use lib.IntN.{ℤ, pos}
 use Rattle.clock.specs.declared.Count.{Count}
@@ -17,15 +17,15 @@ use Rattle.box_activation.specs.Activation.{activate}
 use Rattle.box_calls.specs.declared.FloorBox.{FloorBox}
 use Rattle.box_calls.specs.declared.Answer.{Answer}
 
--- a number, and nothing else: the drift is 0 in every reply but that to an accepted message
+-- R13, R69: a number, and nothing else
 abbrev pub bare : FloorBox → Reply → Answer
 bare b r = record { reply = r; drift = pos 0; next = b; frames = noFrames; notices = noNotices }
 
--- each refusal changes nothing
+-- R69
 abbrev pub refused : FloorBox → Reply → Answer
 refused b r = bare b r
 
--- the box's frames go from its own address to 01-80-C2-00-00-01 with its count
+-- R99
 abbrev pub messageOf : Address → Count → Body → Message
 messageOf own now body = record { destination = record { 0 = 0x0180C2000001 }; source = own; timestamp = now; body = body }
 
@@ -33,7 +33,7 @@ abbrev pub framed : Address → Count → Frames → Sent → Frames
 framed own now f Nothing = f
 framed own now f (Is body) = handed f (writeOf (messageOf own now body) .octets)
 
--- activation at the end of every call
+-- R100, R125
 unfoldable pub accepted : FloorBox → ℤ → Step → Answer
 accepted b drift s =
     let own = b .address in

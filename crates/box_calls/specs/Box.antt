@@ -1,4 +1,4 @@
--- Document 01, "Steps of the box": a fresh box, the client's two requests, and a tick; 13 comes first and 14 last.
+-- Rules R68, R73, R90 to R93, R113, R136: a sound box, a fresh one, the client's two requests, and a tick.
 -- Assumes nothing.
 use mathlib.Core.Bool.{Bool, cond, _&&_}
 use mathlib.Core.List.{[], _∷_}
@@ -15,18 +15,18 @@ use Rattle.box_calls.specs.Answer.{bare, refused, accepted}
 use Rattle.box_calls.specs.declared.FloorBox.{FloorBox}
 use Rattle.box_calls.specs.declared.Answer.{Answer}
 
--- own addresses are individual and nonzero
+-- R73
 unfoldable pub soundOf : FloorBox → Bool
 soundOf b = isIndividual (b .address) && processesSound (b .processes)
 
--- a fresh state asked for with another address is 4 and holds address zero
+-- R90, R91
 unfoldable pub freshOf : Address → Answer
 freshOf a =
     cond (isIndividual a)
     (bare (record { address = a; processes = fresh }) Done)
     (refused (record { address = record { 0 = 0 }; processes = fresh }) Range)
 
--- register in WAIT goes to REGISTERING; else 7
+-- R92
 unfoldable pub registerOf : FloorBox → Answer
 registerOf b =
     let p = b .processes in
@@ -36,7 +36,7 @@ registerOf b =
     ∷ [])
     (refused b) (accepted b (pos 0) (still (withRegistration p (registering (p .registration)))))
 
--- deregister in REGISTERED goes to LOCAL DEREGISTER; else 7
+-- R93
 unfoldable pub deregisterOf : FloorBox → Answer
 deregisterOf b =
     let p = b .processes in
@@ -46,6 +46,7 @@ deregisterOf b =
     ∷ [])
     (refused b) (accepted b (pos 0) (localDeregister p))
 
+-- R113, R136
 unfoldable pub tickOf : FloorBox → Answer
 tickOf b =
     let s = processesTick (b .processes) in

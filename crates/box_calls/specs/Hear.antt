@@ -1,4 +1,4 @@
--- Document 01, "Steps of the box": what a message is answered with; 13, 5, 8, 4 in that order.
+-- Rules R12 to R14, R101 to R104: what a message is answered with.
 -- Assumes nothing.
 use Prim.Native.Nat.{ℕ}
 use mathlib.Core.Bool.{Bool, true, false, not, _&&_, _||_}
@@ -28,18 +28,19 @@ isDiscovery Report = false
 isDiscovery (RegisterReq flag pending) = false
 isDiscovery (RegisterAck flag port sync) = false
 
--- a message must carry the box's address; a discovery GATE may instead carry 01-80-C2-00-00-01
+-- R103
 unfoldable pub isFor : FloorBox → Address → Body → Bool
 isFor b destination body =
     eqb (destination .0) (b .address .0) || (isDiscovery body && eqb (destination .0) 0x0180C2000001)
 
--- each accepted message: its drift is told, and before any step the count is set to the timestamp
+-- R12 to R14
 unfoldable pub heardOf : FloorBox → Message → ℕ → Answer
 heardOf b m random =
     let p = b .processes in
     let own = eqb (m .destination .0) (b .address .0) in
     accepted b (driftOf (p .count .0) (m .timestamp .0)) (processesHear (m .body) (withCount p (m .timestamp)) own random)
 
+-- R101 to R104
 unfoldable pub hearOf : FloorBox → Message → ℕ → Answer
 hearOf b m random =
     given

@@ -1,4 +1,4 @@
--- Ticks of a box that are sure to be done and to hand out nothing, and the box after them.
+-- Rule R193, of the box: ticks that are sure to be done and to hand out nothing, and the box after them.
 -- Assumes nothing.
 use Prim.Native.Nat.{ℕ}
 use mathlib.Core.Bool.{cond}

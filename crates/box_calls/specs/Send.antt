@@ -1,4 +1,4 @@
--- Document 01, "Next to send". A slice is where it stands and the octets in it; which is lent is told by where it stands.
+-- Rules R139 to R144: next to send. A slice is where it stands and the octets in it; which is lent is told by where it stands.
 -- Assumes nothing.
 use Prim.Native.Nat.{ℕ}
 use mathlib.Core.Bool.{Bool, cond, _&&_}
@@ -12,7 +12,7 @@ use Rattle.box_light.specs.declared.Light.the-variants.{Rest, Before, Random, W
 use Rattle.box_registration.specs.Registration.{isRegistered}
 use Rattle.box_calls.specs.declared.FloorBox.{FloorBox}
 
--- the window's remaining ticks; nothing fits while transmission is disabled
+-- R143: the ticks that are left to transmission
 abbrev pub remaining : Light → ℕ
 remaining (Asking t) = t .left
 remaining (Open t) = t .left
@@ -23,12 +23,11 @@ remaining (Warming t) = 0
 remaining (Due t entry sync) = 0
 remaining (Lit t length sync) = 0
 
--- a frame of n octets fits the remaining ticks
+-- R143: a frame of n octets fits
 unfoldable pub fitsIn : ℕ → ℕ → Bool
 fitsIn ticks n = leb (quantaOf n) ticks
 
--- the control frame if there is one and it fits; the data frame if there is one, no control frame waits, the box is registered and it
--- fits; else the empty part of the control frame's buffer
+-- R140 to R142
 unfoldable pub sendOf : FloorBox → RefT (List ℕ) → RefT (List ℕ) → RefT (List ℕ)
 sendOf b control frame =
     let p = b .processes in

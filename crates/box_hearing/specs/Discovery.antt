@@ -1,4 +1,4 @@
--- Document 01, "Discovery GATE": acts only in REGISTERING with the transmitter at rest.
+-- Rules R106 to R109: a discovery GATE.
 -- Assumes nothing.
 use Prim.Native.Nat.{ℕ}
 use mathlib.Core.Bool.{Bool, cond, _&&_}
@@ -16,17 +16,17 @@ use Rattle.box_registration.specs.Registration.{isRegistering}
 use Rattle.box_processes.specs.Parts.{withLight}
 use Rattle.box_processes.specs.declared.Processes.{Processes}
 
--- the caller's random number modulo (length - needed + 1), or 0 if sent to the box's own address
+-- R109
 unfoldable pub randomFor : Bool → ℕ → Quanta → Quanta → Quanta
 randomFor own random length sync = record { 0 = cond own 0 (randomWait random (length .0) (sync .0)) }
 
--- wait the distance, then the random wait; a wait of 0 is passed in the same call
+-- R108
 abbrev pub called : Reach → Quanta → Quanta → Light
 called Past random sync = Rest
 called (Ahead wait) random sync =
     cond (eqb (wait .0) 0) (randomly random sync) (Before (record { left = wait .0 }) random sync)
 
--- if the start's distance is outside 0 .. 62,500,000, or the length is below the needed one, it is passed over
+-- R106, R107
 unfoldable pub discover : Processes → Grant → Quanta → Bool → ℕ → Processes
 discover p grant sync own random =
     let now = p .count .0 in

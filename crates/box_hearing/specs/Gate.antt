@@ -1,5 +1,4 @@
--- Document 01, "Normal GATE": acts only in REGISTERED; "its grants are taken in frame order if the distance is in 0 .. 62,500,000 and the
--- list has room, each with a notice".
+-- Rules R121 to R124: a normal GATE.
 -- Assumes nothing.
 use Prim.Native.Nat.{ℕ}
 use mathlib.Core.Bool.{true, cond, _&&_}
@@ -18,10 +17,11 @@ use Rattle.box_processes.specs.declared.Processes.{Processes}
 use Rattle.box_processes.specs.declared.Step.{Step}
 use Rattle.box_hearing.specs.declared.Taking.{Taking}
 
--- what the list keeps of a grant
+-- R124
 abbrev pub entryOf : Grant → Entry
 entryOf g = record { start = g .start; length = g .length }
 
+-- R123
 unfoldable pub taken : ℕ → Taking → Grant → Taking
 taken now t g =
     cond (startInRange now (g .start .0) && ltb (t .list .number) 16)
@@ -31,7 +31,7 @@ taken now t g =
 abbrev pub takenAll : Processes → List Grant → Taking
 takenAll p grants = foldl (taken (p .count .0)) (record { list = p .list; notices = noNotices }) grants
 
--- it restarts the watchdog
+-- R121, R122
 unfoldable pub gated : Processes → List Grant → Step
 gated p grants =
     let t = takenAll p grants in

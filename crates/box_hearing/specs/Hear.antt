@@ -1,4 +1,4 @@
--- Document 01, "Steps of the box": what each kind of message does, once it is accepted.
+-- Rules R102, R106, R119, R121: what each kind of message does, once it is accepted.
 -- Assumes nothing.
 use Prim.Native.Nat.{ℕ}
 use mathlib.Core.Bool.{Bool}
@@ -16,7 +16,7 @@ abbrev pub hearOf : Body → Processes → Bool → ℕ → Step
 hearOf (Gate grants) p own random = gated p (listed grants)
 hearOf (Discovery grant sync) p own random = still (discover p grant sync own random)
 hearOf (Register port flag sync pending) p own random = registerOf (p .registration .state) flag p port sync
--- REGISTER_REQ, REGISTER_ACK and REPORT are 5
+-- R102: never accepted
 hearOf Report p own random = still p
 hearOf (RegisterReq flag pending) p own random = still p
 hearOf (RegisterAck flag port sync) p own random = still p

@@ -1,4 +1,4 @@
--- Document 01, "Normal GATE", as a page: which grants are taken, and that the walk over the GATE takes these and tells each.
+-- Lemmas: R123 as a list: which grants are taken, and that the walk over the GATE takes these and tells each.
 -- Assumes nothing.
 use Prim.Native.Nat.{ℕ, _+_, _≤_, _<_}
 use mathlib.Core.Path.{_≡_, refl, ap, _∙_}
@@ -22,7 +22,7 @@ use Rattle.box_processes.specs.declared.Processes.{Processes}
 use Rattle.box_hearing.specs.Gate.{entryOf, taken, takenAll}
 use Rattle.box_hearing.specs.declared.Taking.{Taking}
 
--- "its grants are taken in frame order if the distance is in 0 .. 62,500,000 and the list has room": it holds so many, and sixteen at most
+-- R123, of a list that holds so many
 abbrev pub takenOf : ℕ → ℕ → List Grant → List Grant
 takenOf now number [] = []
 takenOf now number (g ∷ gs) =

@@ -1,4 +1,4 @@
--- Document 01, "REGISTER", in each state and for each flag.
+-- Rules R114 to R119: REGISTER, in each state and for each flag.
 -- Assumes nothing.
 use Prim.Native.Nat.{ℕ}
 use mathlib.Core.Bool.{true}
@@ -18,7 +18,7 @@ use Rattle.box_processes.specs.Parts.{withRegistration, waiting, still}
 use Rattle.box_processes.specs.declared.Processes.{Processes}
 use Rattle.box_processes.specs.declared.Step.{Step}
 
--- keeps port and sync, notice registered, REGISTER_ACK flag 1 then an empty REPORT, REGISTERED, watchdog and report timer started
+-- R114, R116
 abbrev pub admitted : Processes → ℕ → Quanta → Step
 admitted p port sync =
     record {
@@ -29,7 +29,7 @@ admitted p port sync =
       second = Sent.Is Report;
     }
 
--- gives notice, REGISTER_ACK flag 0, WAIT; either REGISTER_ACK echoes the port and sync received
+-- R115, R116
 abbrev pub rejected : Processes → ℕ → Quanta → Step
 rejected p port sync =
     record {
@@ -40,25 +40,26 @@ rejected p port sync =
       second = Sent.Nothing;
     }
 
--- gives notice, WAIT
+-- R118
 abbrev pub left : Processes → Step
 left p =
     record { ok = true; next = waiting p; notices = noticesOf (Notice.Deregistered ∷ []); first = Sent.Nothing; second = Sent.Nothing }
 
--- in REGISTER_REQ; a message that finds no step is answered without notice or frame
+-- in REGISTER_REQ: R114, R115, R119
 abbrev pub asked : RegisterFlag → Processes → ℕ → Quanta → Step
 asked Ack p port sync = admitted p port sync
 asked Nack p port sync = rejected p port sync
 asked Reregister p port sync = still p
 asked Deregister p port sync = still p
 
--- in REGISTERED; reregister does as ack (the list stays)
+-- in REGISTERED: R117 to R119
 abbrev pub held : RegisterFlag → Processes → ℕ → Quanta → Step
 held Reregister p port sync = admitted p port sync
 held Deregister p port sync = left p
 held Ack p port sync = still p
 held Nack p port sync = still p
 
+-- in WAIT and REGISTERING: R119
 abbrev pub registerOf : State → RegisterFlag → Processes → ℕ → Quanta → Step
 registerOf RegisterReq flag p port sync = asked flag p port sync
 registerOf Registered flag p port sync = held flag p port sync

@@ -1,4 +1,4 @@
--- Document 01, "Fresh" and "Entering WAIT", of the box's processes, and each part set by itself.
+-- Rules R90, R95: the processes of a fresh box, entering WAIT, and each part set by itself.
 -- Assumes nothing.
 use mathlib.Core.Bool.{true}
 use mathlib.Core.List.{[]}
@@ -14,7 +14,7 @@ use Rattle.box_telling.specs.declared.Sent.the-variants.{Nothing}
 use Rattle.box_processes.specs.declared.Processes.{Processes}
 use Rattle.box_processes.specs.declared.Step.{Step}
 
--- fresh: count 0, WAIT, dark, empty list
+-- R90
 abbrev pub fresh : Processes
 fresh = record { count = record { 0 = 0 }; registration = unregistered; list = packed []; light = Rest }
 
@@ -30,7 +30,7 @@ withList b l = record { count = b .count; registration = b .registration; list =
 abbrev pub withLight : Processes → Light → Processes
 withLight b l = record { count = b .count; registration = b .registration; list = b .list; light = l }
 
--- entering WAIT darkens the laser, disables transmission, empties the list and stops all timers
+-- R95
 abbrev pub waiting : Processes → Processes
 waiting b = record { count = b .count; registration = unregister (b .registration); list = packed []; light = Rest }
 

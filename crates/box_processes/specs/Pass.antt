@@ -1,4 +1,4 @@
--- R193, advance, of the processes: ticks at which no timer rings and activation has nothing to choose from.
+-- Rule R193, of the processes: ticks at which no timer rings and activation has nothing to choose from.
 -- Assumes nothing.
 use Prim.Native.Nat.{ℕ, min}
 use mathlib.Core.Bool.{Bool, cond, _&&_}
@@ -12,7 +12,7 @@ use Rattle.box_registration.specs.Pass.{passedOf as registrationPassed, quietOf
 use Rattle.box_registration.specs.Registration.{isRegistered}
 use Rattle.box_processes.specs.declared.Processes.{Processes}
 
--- activation comes when at rest and REGISTERED
+-- R125
 unfoldable pub activates : Processes → Bool
 activates p = atRest (p .light) && isRegistered (p .registration .state)
 

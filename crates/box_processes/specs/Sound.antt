@@ -1,5 +1,4 @@
--- Document 01, "Sound box", of its processes: "at most 16 grants, none outside REGISTERED; every running timer at least 1 and no more than
--- its longest setting .. in WAIT the transmitter is at rest; a normal grant being waited for is in the list".
+-- Rules R80, R84: sound processes, by their parts.
 -- Assumes nothing.
 use mathlib.Core.Bool.{Bool, true, _&&_, _||_}
 use lib.Dec.{eqb}
@@ -13,7 +12,7 @@ use Rattle.box_registration.specs.declared.State.{State}
 use Rattle.box_registration.specs.declared.State.the-variants.{Wait, Registering, RegisterReq, Registered}
 use Rattle.box_processes.specs.declared.Processes.{Processes}
 
--- in WAIT the transmitter is at rest
+-- R84
 abbrev pub restsIn : State → Light → Bool
 restsIn Wait l = atRest l
 restsIn Registering l = true

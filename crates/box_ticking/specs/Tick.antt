@@ -1,4 +1,4 @@
--- Document 01, "Tick": count, then registration timer, report timer, transmitter, each judged on the state so far.
+-- Rules R94, R111, R113, R133, R136 to R138: a tick of the box, stage by stage.
 -- Assumes nothing.
 use mathlib.Core.Bool.{true}
 use mathlib.Core.List.{[], _∷_}
@@ -22,27 +22,27 @@ use Rattle.box_ticking.specs.declared.Stage.{Stage}
 abbrev told : Processes → Notice → Sent → Stage
 told p n s = record { ok = true; next = p; notice = n; sent = s }
 
--- REGISTER_REQ flag 3 with pending 0
+-- R94: what it hands out
 abbrev pub farewell : Sent
 farewell = Sent.Is (RegisterReq RegisterReqFlag.Deregister 0)
 
--- LOCAL DEREGISTER: REGISTER_REQ flag 3 with pending 0, notice, WAIT
+-- R94
 abbrev pub localDeregister : Processes → Step
 localDeregister p =
     record { ok = true; next = waiting p; notices = noticesOf (Notice.Deregistered ∷ []); first = farewell; second = Sent.Nothing }
 
 abbrev pub ring : Bell → Processes → Stage
 ring Bell.Quiet p = told p Notice.Nothing Sent.Nothing
--- the wait running out gives notice retry, REGISTERING
+-- R120
 ring Bell.Retry p = told p Notice.Retry Sent.Nothing
--- the watchdog's end is LOCAL DEREGISTER
+-- R137
 ring Bell.Lost p = told (waiting p) Notice.Deregistered farewell
--- periodic REPORT
+-- R138
 ring Bell.Report p = told p Notice.Nothing (Sent.Is Report)
 
 abbrev pub shine : Beam → Processes → Stage
 shine Beam.Quiet p = told p Notice.Nothing Sent.Nothing
--- on enabling: notice window open, REGISTER_REQ flag 1 with pending 16, state REGISTER_REQ, wait timer; 14 on a box not REGISTERING
+-- R111, R113
 shine Beam.Window p =
     record {
       ok = isRegistering (p .registration .state);
@@ -51,7 +51,7 @@ shine Beam.Window p =
       sent = Sent.Is (RegisterReq RegisterReqFlag.Register 16);
     }
 shine (Beam.Start entry sync) p = told (lightUp p entry sync) Notice.Nothing Sent.Nothing
--- notices at open and close
+-- R133
 shine Beam.Opened p = told p Notice.Open Sent.Nothing
 shine Beam.Closed p = told p Notice.Close Sent.Nothing
 

@@ -1,5 +1,4 @@
--- Document 01, "Steps of the head": "A fresh head has count 0, window idle, every lent link idle; making one lends no output and tests 13
--- (number of links only) before 4." A refused one holds address zero, and leaves the lent links as they were.
+-- Rules R153 to R155: a fresh head.
 -- Assumes nothing.
 use Prim.Native.Nat.{ℕ}
 use mathlib.Core.Bool.{Bool, cond}
@@ -31,15 +30,15 @@ freshly a xs = record { answer = a; table = xs }
 abbrev pub isDone : Reply → Bool
 isDone r = eqb (numberOf r) 0
 
--- an accepted head clears the links, a refused one offers them nothing
+-- R153, R155: an accepted head clears the links, a refused one offers them nothing
 unfoldable pub clearing : Bool → Event
 clearing done = cond done Event.Clear Event.Nothing
 
--- 13 (number of links only) before 4
+-- R154
 abbrev pub testedFor : Address → ℕ → Reply
 testedFor a n = answerOf (Unsound unless isFew n ∷ Range unless isIndividual a ∷ [])
 
--- a head that has not begun; a refused one holds address zero
+-- R153, R155
 unfoldable pub begunOf : Address → ℕ → Answer
 begunOf a n =
     record {
@@ -50,7 +49,7 @@ begunOf a n =
       made = 0;
     }
 
--- every lent link idle, or as they were
+-- R153, R155: the table after it
 unfoldable pub freshOf : Address → List Link → Freshly
 freshOf a xs =
     let made = begunOf a (length xs) in

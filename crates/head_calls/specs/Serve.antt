@@ -1,4 +1,4 @@
--- Document 01, "Steps of the head": a call as a whole, with the table and the output after it.
+-- Rules R147 to R150: a call of the head as a whole, with the table and the output after it.
 -- Assumes nothing.
 use Prim.Native.Nat.{ℕ}
 use mathlib.Core.List.{List}
@@ -28,11 +28,11 @@ served a xs os = record { answer = a; table = xs; octets = os }
 unfoldable pub planOf : Head → List Link → Call → ℕ → Plan
 planOf h xs r room = judgeOf h (factsOf xs (lookOf r)) (length xs) room r
 
--- frames go from the head's own address with the head's count
+-- R147
 abbrev pub senderOf : Plan → Sender
 senderOf p = record { source = p .head .address; timestamp = p .head .count }
 
--- the frames: the head's own first, then the links' in order
+-- R149, R188: the head's own frame first, then the links' in order
 unfoldable pub sentOf : Plan → List Link → List ℕ → Output
 sentOf p xs os = each (noteLink (p .event) (senderOf p)) 1 xs (noteOf (senderOf p) (output os 0) (p .lead))
 

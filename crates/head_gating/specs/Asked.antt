@@ -1,5 +1,4 @@
--- Document 01, "Gate (link, grants, force bits)": what is asked for, and whether it is in range. "A force bit for an absent grant is out of
--- range"; more than four grants is judged apart, with no more than the first four handed in.
+-- Rules R172, R173: what a gate is asked for with, and whether it is in range. That there are no more than four is judged apart (R174).
 -- Assumes nothing.
 use Prim.Native.Nat.{ℕ, _/_, _%_}
 use mathlib.Core.Bool.{Bool, true, cond, _&&_}
@@ -12,7 +11,7 @@ use Rattle.frame_range.specs.Fits.{fitsAll}
 use Rattle.head_gating.specs.declared.Leave.{Leave}
 use Rattle.head_gating.specs.declared.Asked.{Asked}
 
--- the bit of that worth in the force octet, where grants 1 to 4 have 1, 2, 4, 8
+-- R172: the bit of that worth in the force octet
 abbrev pub bitOf : ℕ → ℕ → Bool
 bitOf force worth = eqb (force / worth % 2) 1
 
@@ -40,7 +39,7 @@ grantsOf a =
     (cond (eqb (a .number) 2) (Two (first a) (second a))
     (cond (eqb (a .number) 3) (Three (first a) (second a) (third a)) (Four (first a) (second a) (third a) (fourth a)))))
 
--- the force bits of so many grants are below this
+-- R173: the force bits of so many grants are below this
 unfoldable pub allowed : ℕ → ℕ
 allowed n = cond (eqb n 0) 1 (cond (eqb n 1) 2 (cond (eqb n 2) 4 (cond (eqb n 3) 8 16)))
 

@@ -1,4 +1,4 @@
--- Document 01, "Steps of the head": what a message is answered with, 5, 6, 7, 8, 4 in that order, and what it does.
+-- Rules R68, R70, R176 to R187: what a message is answered with, and what it does.
 -- Assumes nothing.
 use Prim.Native.Nat.{ℕ}
 use mathlib.Core.Bool.{Bool, true, false, cond, _&&_, _||_}
@@ -31,7 +31,7 @@ abbrev pub asksToRegister : RegisterReqFlag → Bool
 asksToRegister RegisterReqFlag.Register = true
 asksToRegister RegisterReqFlag.Deregister = false
 
--- REGISTER_REQ flag 1
+-- R177: REGISTER_REQ flag 1
 abbrev pub isNewcomer : Body → Bool
 isNewcomer (Gate grants) = false
 isNewcomer (Discovery grant sync) = false
@@ -40,32 +40,32 @@ isNewcomer Report = false
 isNewcomer (RegisterReq flag pending) = asksToRegister flag
 isNewcomer (RegisterAck flag port sync) = false
 
--- REGISTER_REQ flag 1 comes on link 0 only; other messages need a link from 1, and one that is held
+-- R177, R178
 unfoldable pub onLink : Body → Link → ℕ → Bool
 onLink body l link = cond (isNewcomer body) (eqb link 0) (isHeld (l .state))
 
--- REGISTER_REQ flag 1 is heard inside the window, else 7
+-- R177
 unfoldable pub inState : Head → Body → Bool
 inState h body = cond (isNewcomer body) (isInside (h .window)) true
 
--- a message must carry the head's address or 01-80-C2-00-00-01
+-- R179: the destination
 unfoldable pub isFor : Head → Address → Bool
 isFor h destination = eqb (destination .0) (h .address .0) || eqb (destination .0) 0x0180C2000001
 
--- and on a link from 1 its source must be that link's address; else 8
+-- R179: the source
 unfoldable pub byParty : Head → Link → Message → Bool
 byParty h l m = isFor h (m .destination) && (isNewcomer (m .body) || eqb (m .source .0) (l .address .0))
 
--- a message that passes but finds no step is answered 0, without notice or frame
+-- R70
 abbrev pub noStep : Head → Plan
 noStep h = accepted h Event.Nothing
 
--- what only a registered link heeds, and the notice of it
+-- R187: what only a registered link heeds, and the notice of it
 unfoldable pub onRegistered : Change → Kind → Head → Link → ℕ → Quanta → Plan
 onRegistered change kind h l link trip =
     cond (isRegistered (l .state)) (telling h (Event.At link change) kind link trip) (noStep h)
 
--- REGISTER_ACK while waiting: 1 registers, 0 deregisters; echoes aren't judged
+-- R181 to R183
 abbrev pub confirmedBy : RegisterAckFlag → Head → ℕ → Quanta → Plan
 confirmedBy RegisterAckFlag.Ack h link trip = telling h (Event.At link Change.Register) Kind.Registered link trip
 confirmedBy RegisterAckFlag.Nack h link trip = telling h (Event.At link Change.Deregister) Kind.Dropped link trip
@@ -73,17 +73,17 @@ confirmedBy RegisterAckFlag.Nack h link trip = telling h (Event.At link Change.D
 unfoldable pub confirmed : RegisterAckFlag → Head → Link → ℕ → Quanta → Plan
 confirmed flag h l link trip = cond (isRegistered (l .state)) (noStep h) (confirmedBy flag h link trip)
 
--- REGISTER_REQ flag 1 gives a notice, with link 0; flag 3 deregisters a registered link
+-- R151, R177, R184
 abbrev pub requested : RegisterReqFlag → Head → Link → ℕ → Quanta → Plan
 requested RegisterReqFlag.Register h l link trip = telling h Event.Nothing Kind.Request 0 trip
 requested RegisterReqFlag.Deregister h l link trip = onRegistered Change.Deregister Kind.Dropped h l link trip
 
 abbrev pub heardOf : Body → Head → Link → ℕ → Quanta → Plan
--- REPORT on a registered link restarts its watchdog
+-- R185
 heardOf Report h l link trip = onRegistered Change.Report Kind.Report h l link trip
 heardOf (RegisterReq flag pending) h l link trip = requested flag h l link trip
 heardOf (RegisterAck flag port sync) h l link trip = confirmed flag h l link trip
--- GATE and REGISTER are 5
+-- R176: never accepted
 heardOf (Gate grants) h l link trip = noStep h
 heardOf (Discovery grant sync) h l link trip = noStep h
 heardOf (Register port flag sync pending) h l link trip = noStep h

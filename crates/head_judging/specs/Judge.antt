@@ -1,4 +1,4 @@
--- Document 01, "Reply numbers", of the head: 13 and 12 come before all else, then each request's own tests.
+-- Rules R64, R65, R68, R188, R192: 13 and 12 come before all else, then each call's own tests.
 -- Assumes nothing.
 use Prim.Native.Nat.{ℕ, _+_, _-_, _*_, min}
 use mathlib.Core.Bool.{Bool, _&&_}
@@ -21,7 +21,7 @@ use Rattle.head_judging.specs.declared.Call.{Call}
 abbrev pub lookFor : ℕ → Look
 lookFor link = record { link = link; address = record { 0 = 0 } }
 
--- what a request asks of the table: a link by its number, or who holds an address
+-- what a call asks of the table: a link by its number, or who holds an address
 abbrev pub lookOf : Call → Look
 lookOf (Call.Open start length sync window) = lookFor 0
 lookOf (Call.Admit a pending sync) = record { link = 0; address = a }
@@ -37,11 +37,11 @@ lookOf (Call.Advance n) = lookFor 0
 abbrev pub leapt : Head → ℕ → Plan
 leapt h k = leaping (tickOf (afterOf h k)) (Leap k) (k + 1)
 
--- 9 unless n is 1 to 65,536
+-- R192
 unfoldable pub advanceOf : Head → ℕ → ℕ → Plan
 advanceOf h quiet n = given (Grant unless inReach n ∷ []) (refused h) (leapt h (min quiet (n - 1)))
 
--- tick: count, window, then links in order
+-- R188
 abbrev pub decideOf : Call → Head → Facts → Plan
 decideOf (Call.Open start length sync window) h f = openOf h start length sync window
 decideOf (Call.Admit a pending sync) h f = admitOf h f a pending sync
@@ -53,11 +53,11 @@ decideOf (Call.Hear link m) h f = hearOf h (f .link) link m
 decideOf Call.Tick h f = accepted (tickOf h) Tick
 decideOf (Call.Advance n) h f = advanceOf h (f .quiet) n
 
--- 13: unsound state or table
+-- R65
 unfoldable pub isSound : Head → Facts → Bool
 isSound h f = soundOf h && f .sound
 
--- 12: output shorter than 60 × number of links
+-- R64
 unfoldable pub hasRoom : ℕ → ℕ → Bool
 hasRoom links octets = leb (60 * links) octets
 

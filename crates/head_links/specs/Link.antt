@@ -1,4 +1,4 @@
--- Document 01, "Steps of the head": a link is idle, waiting or registered, and runs the timers of its state.
+-- Rules R75, R76, R145: a link is idle, waiting or registered, and runs the timers of its state.
 -- Assumes nothing.
 use mathlib.Core.Bool.{Bool, true, false}
 use Rattle.clock.specs.Numbers.{watchdog, periodic, wait}
@@ -11,15 +11,15 @@ use Rattle.head_links.specs.declared.Link.{Link}
 abbrev pub off : Timer
 off = record { left = 0 }
 
--- an idle link's address is zero
+-- R75, R76
 abbrev pub idle : Link
 idle = record { address = record { 0 = 0 }; state = Idle; wait = off; watchdog = off; periodic = off }
 
--- waiting runs its timer
+-- R76
 abbrev pub waitingAt : Address → Link
 waitingAt a = record { address = a; state = Waiting; wait = record { left = wait }; watchdog = off; periodic = off }
 
--- registered its watchdog and periodic
+-- R76
 abbrev pub registeredAt : Address → Link
 registeredAt a =
     record { address = a; state = Registered; wait = off; watchdog = record { left = watchdog }; periodic = record { left = periodic } }

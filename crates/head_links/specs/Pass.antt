@@ -1,4 +1,4 @@
--- R193, advance, of one link: ticks at which none of its timers rings take so many from each that runs.
+-- Rule R193, of one link: ticks at which none of its timers rings take so many from each that runs.
 -- Assumes nothing.
 use Prim.Native.Nat.{ℕ, min}
 use Rattle.clock.specs.Timers.{passedOf as timerPassed, quietOf as timerQuiet}

@@ -1,5 +1,4 @@
--- Document 01, "Sound table", of one link: "an idle link's address is zero; waiting runs its timer, registered its watchdog and periodic,
--- each from 1 to its setting; any other timer is 0; held addresses are individual, nonzero".
+-- Rules R75 to R77: a sound link, by itself.
 -- Assumes nothing.
 use mathlib.Core.Bool.{Bool, _&&_}
 use lib.Dec.{eqb}

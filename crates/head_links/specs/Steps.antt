@@ -1,4 +1,4 @@
--- Document 01, "Steps of the head": what each change makes of a link, and the frame that it sends. A link's port is its number.
+-- Rules R162, R168, R169, R171, R175, R181, R185: what each change makes of a link, and the frame that it sends. Its port is its number.
 -- Assumes nothing.
 use Prim.Native.Nat.{ℕ}
 use mathlib.Core.Bool.{cond}
@@ -25,32 +25,32 @@ withPeriodic l t = record { address = l .address; state = l .state; wait = l .wa
 abbrev pub still : Link → Stepped
 still l = record { link = l; sent = Nothing }
 
--- admit: REGISTER ack; waiting
+-- R162
 abbrev pub admitted : Address → ℕ → ℕ → Quanta → Stepped
 admitted a port pending sync = record { link = waitingAt a; sent = To a (Register port RegisterFlag.Ack sync pending) }
 
--- reregister sends flag 1 and waits; it echoes pending 0
+-- R168
 abbrev pub reregistered : Link → ℕ → Quanta → Stepped
 reregistered l port sync =
     record { link = waitingAt (l .address); sent = To (l .address) (Register port RegisterFlag.Reregister sync 0) }
 
--- deregister sends flag 2 with sync 0 and idles the link; it echoes pending 0
+-- R169
 abbrev pub deregistered : Link → ℕ → Stepped
 deregistered l port =
     record { link = idle; sent = To (l .address) (Register port RegisterFlag.Deregister (record { 0 = 0 }) 0) }
 
--- gate restarts the periodic timer if registered
+-- R171, R175
 unfoldable pub gated : Link → Grants → Stepped
 gated l grants =
     cond (isRegistered (l .state))
     (record { link = withPeriodic l (record { left = periodic }); sent = To (l .address) (Gate grants) })
     (record { link = l; sent = To (l .address) (Gate grants) })
 
--- REGISTER_ACK 1 registers, starts watchdog and periodic timer and sends an empty GATE
+-- R181
 abbrev pub registered : Link → Stepped
 registered l = record { link = registeredAt (l .address); sent = To (l .address) (Gate None) }
 
--- REPORT restarts the watchdog
+-- R185
 abbrev pub reported : Link → Stepped
 reported l = still (withWatchdog l (record { left = watchdog }))
 

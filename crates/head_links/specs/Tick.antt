@@ -1,5 +1,4 @@
--- Document 01, "Tick" at the head, of one link: "Wait or watchdog running out deregisters the link, ahead of a periodic GATE (an empty one,
--- which restarts its timer) due in the same tick."
+-- Rules R189, R190: a tick of one link.
 -- Assumes nothing.
 use Prim.Native.Nat.{ℕ}
 use mathlib.Core.Bool.{cond}

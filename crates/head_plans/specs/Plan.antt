@@ -1,4 +1,4 @@
--- What a call of the head is going to do: a refusal changes nothing.
+-- Rules R69, R151, R152: what a call of the head is going to do.
 -- Assumes nothing.
 use Prim.Native.Nat.{ℕ}
 use Rattle.clock.specs.declared.Quanta.{Quanta}
@@ -19,7 +19,7 @@ quiet = record { kind = Kind.Nothing; link = 0; trip = record { 0 = 0 } }
 abbrev pub refused : Head → Reply → Plan
 refused h r = record { reply = r; head = h; event = Event.Nothing; lead = Sent.Nothing; notice = quiet; made = 0 }
 
--- client requests and ticks give no notices
+-- R152
 abbrev pub accepted : Head → Event → Plan
 accepted h e = record { reply = Done; head = h; event = e; lead = Sent.Nothing; notice = quiet; made = 0 }
 
@@ -31,7 +31,7 @@ leaping h e made = record { reply = Done; head = h; event = e; lead = Sent.Nothi
 abbrev pub sending : Head → Address → Body → Plan
 sending h a body = record { reply = Done; head = h; event = Event.Nothing; lead = Sent.To a body; notice = quiet; made = 0 }
 
--- notices, each with link and round trip
+-- R151
 abbrev pub telling : Head → Event → Kind → ℕ → Quanta → Plan
 telling h e kind link trip =
     record { reply = Done; head = h; event = e; lead = Sent.Nothing; notice = record { kind = kind; link = link; trip = trip }; made = 0 }

@@ -1,4 +1,4 @@
--- Document 01, "Steps of the head": what a client's request is answered with, 6, 7, 4, 9, 10, 11 in that order, each where it applies.
+-- Rules R68, R156 to R175: what a client's request is answered with.
 -- Assumes nothing.
 use Prim.Native.Nat.{ℕ}
 use mathlib.Core.Bool.{Bool, false, not, _&&_}
@@ -27,15 +27,15 @@ use Rattle.head_table.specs.declared.Event.the-variants.{At}
 use Rattle.head_plans.specs.Plan.{refused, accepted, sending}
 use Rattle.head_plans.specs.declared.Plan.{Plan}
 
--- a length or sync time has sixteen bits, else 4
+-- R47
 unfoldable pub fitsLengths : Quanta → Quanta → Bool
 fitsLengths length sync = fitsLength length && fitsLength sync
 
--- 9 if the start's distance is outside 0 .. 62,500,000, the grant is shorter than 32 + sync + 42, or the window is out of range
+-- R158
 unfoldable pub mayOpen : Count → Count → Quanta → Quanta → Quanta → Bool
 mayOpen now start length sync window = startInRange (now .0) (start .0) && serves (sync .0) (length .0) && fits window
 
--- open window: 7 unless idle; sends the discovery GATE, force bits 0, to 01-80-C2-00-00-01
+-- R156 to R160
 unfoldable pub openOf : Head → Count → Quanta → Quanta → Quanta → Plan
 openOf h start length sync window =
     given
@@ -47,11 +47,11 @@ openOf h start length sync window =
     (sending (withWindow h (opened (h .count) start window)) (record { 0 = 0x0180C2000001 })
     (Discovery (record { start = start; length = length; force = false }) sync))
 
--- for admit and reject a group or zero address is 4
+-- R166
 unfoldable pub fitsParty : Address → Quanta → Bool
 fitsParty a sync = isIndividual a && fitsLength sync
 
--- admit: lowest idle link; REGISTER ack; waiting
+-- R162, R163
 unfoldable pub admitOf : Head → Facts → Address → ℕ → Quanta → Plan
 admitOf h f a pending sync =
     given
@@ -61,12 +61,12 @@ admitOf h f a pending sync =
     ∷ [])
     (refused h) (accepted h (At (f .idle) (Change.Admit a pending sync)))
 
--- reject: REGISTER nack, port 0; no state changes
+-- R164, R165
 unfoldable pub rejectOf : Head → Address → ℕ → Quanta → Plan
 rejectOf h a pending sync =
     given (Range unless fitsParty a sync ∷ []) (refused h) (sending h a (Register 0 RegisterFlag.Nack sync pending))
 
--- reregister and deregister: registered links only, a waiting one is 7
+-- R167 to R170
 unfoldable pub reregisterOf : Head → Link → ℕ → Quanta → Plan
 reregisterOf h l link sync =
     given
@@ -84,7 +84,7 @@ deregisterOf h l link =
     ∷ [])
     (refused h) (accepted h (At link Change.Deregister))
 
--- gate: waiting or registered; more than four grants is 9; starts and lengths aren't judged, but for a length's sixteen bits
+-- R167, R171 to R174
 unfoldable pub gateOf : Head → Link → ℕ → Asked → Plan
 gateOf h l link asked =
     given

@@ -1,4 +1,4 @@
--- Document 01, "Steps of the head": a fresh head, its tick, and when it is sound.
+-- Rules R73, R153, R188: a fresh head, its tick, and when it is sound.
 -- Assumes nothing.
 use Prim.Native.Nat.{ℕ}
 use mathlib.Core.Bool.{Bool, _&&_}
@@ -10,14 +10,14 @@ use Rattle.head_state.specs.declared.Head.{Head}
 use Rattle.head_state.specs.declared.Window.{Window}
 use Rattle.head_state.specs.declared.Window.the-variants.{Idle}
 
--- a fresh head has count 0, window idle
+-- R153
 abbrev pub begun : Address → Head
 begun a = record { address = a; count = record { 0 = 0 }; window = Idle }
 
 abbrev pub withWindow : Head → Window → Head
 withWindow h w = record { address = h .address; count = h .count; window = w }
 
--- tick: count, window
+-- R188
 abbrev pub tickOf : Head → Head
 tickOf h = record { address = h .address; count = nextOf (h .count); window = tickedWindow (h .window) }
 
@@ -25,6 +25,6 @@ tickOf h = record { address = h .address; count = nextOf (h .count); window = ti
 abbrev pub afterOf : Head → ℕ → Head
 afterOf h k = record { address = h .address; count = laterOf (h .count) k; window = windowAfter (h .window) k }
 
--- own addresses are individual and nonzero
+-- R73
 unfoldable pub soundOf : Head → Bool
 soundOf h = isIndividual (h .address) && soundWindow (h .window)

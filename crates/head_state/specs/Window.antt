@@ -1,5 +1,4 @@
--- Document 01, "Open window": "The window waits the distance (0: inside at once), is inside for its length, then idle." While it waits its
--- length is kept.
+-- Rules R26, R78, R79, R160: the discovery window. Before it begins its length is kept.
 -- Assumes nothing.
 use Prim.Native.Nat.{ℕ, _-_}
 use mathlib.Core.Bool.{Bool, true, false, cond, _&&_}
@@ -15,7 +14,7 @@ use Rattle.clock.specs.declared.Reach.the-variants.{Past, Ahead}
 use Rattle.head_state.specs.declared.Window.{Window}
 use Rattle.head_state.specs.declared.Window.the-variants.{Idle, Before, Inside}
 
--- discovery window 1 to 131,072
+-- R26
 abbrev pub longestWindow : ℕ
 longestWindow = 131072
 
@@ -32,11 +31,11 @@ isInside Idle = false
 isInside (Before t length) = false
 isInside (Inside t) = true
 
--- inside for its length
+-- R160: inside
 abbrev pub insideFor : Quanta → Window
 insideFor length = Inside (record { left = length .0 })
 
--- the window waits the distance; a past start is never opened
+-- R160: waiting; a past start is never opened
 abbrev pub openedAt : Reach → Quanta → Window
 openedAt Past length = Idle
 openedAt (Ahead wait) length = cond (eqb (wait .0) 0) (insideFor length) (Before (record { left = wait .0 }) length)
@@ -49,7 +48,7 @@ tickedWindow Idle = Idle
 tickedWindow (Before t length) = cond (ticked t .rang) (insideFor length) (Before (ticked t .timer) length)
 tickedWindow (Inside t) = cond (ticked t .rang) Idle (Inside (ticked t .timer))
 
--- head window timer: 1 to 62,500,000 before, 1 to 131,072 inside; a kept length is one that a window may have
+-- R78, R79
 abbrev pub soundWindow : Window → Bool
 soundWindow Idle = true
 soundWindow (Before t length) = runs t furthest && fits length

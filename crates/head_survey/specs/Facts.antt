@@ -1,4 +1,4 @@
--- Document 01, "Sound table", and what the steps of the head ask of the table. Link numbers are places, from 1.
+-- Rules R74, R77, R146, R162, R163: a sound table, and what the steps of the head ask of it.
 -- Assumes nothing.
 use Prim.Native.Nat.{ℕ, suc, min}
 use mathlib.Core.Bool.{Bool, true, false, cond, not, _&&_, _||_}
@@ -14,7 +14,7 @@ use Rattle.head_links.specs.declared.Link.{Link}
 use Rattle.head_survey.specs.declared.Look.{Look}
 use Rattle.head_survey.specs.declared.Facts.{Facts}
 
--- 1 to 64 links
+-- R74
 unfoldable pub isFew : ℕ → Bool
 isFew n = leb 1 n && leb n 64
 
@@ -30,7 +30,7 @@ abbrev pub allSound : List Link → Bool
 allSound [] = true
 allSound (l ∷ ls) = soundOf l && allSound ls
 
--- held addresses are all different
+-- R77
 abbrev pub different : List Link → Bool
 different [] = true
 different (l ∷ ls) = not (isHeld (l .state) && anyHolds (l .address) ls) && different ls
@@ -38,12 +38,12 @@ different (l ∷ ls) = not (isHeld (l .state) && anyHolds (l .address) ls) && di
 unfoldable pub soundTable : List Link → Bool
 soundTable xs = isFew (length xs) && allSound xs && different xs
 
--- the lowest idle link's number, where the first has the number k; 0 if every link is held
+-- R162: the lowest idle link's number, where the first has the number k; 0 if there is none
 abbrev pub idleFrom : ℕ → List Link → ℕ
 idleFrom k [] = 0
 idleFrom k (l ∷ ls) = cond (isHeld (l .state)) (idleFrom (suc k) ls) k
 
--- the link of that number, where the first has the number k; an idle one for a number that no link has
+-- R146: the link of that number, where the first has the number k; an idle one for a number that no link has
 abbrev pub linkFrom : ℕ → ℕ → List Link → Link
 linkFrom number k [] = idle
 linkFrom number k (l ∷ ls) = cond (eqb k number) l (linkFrom number (suc k) ls)
@@ -53,7 +53,7 @@ abbrev pub quietAll : List Link → ℕ
 quietAll [] = furthestAdvance
 quietAll (l ∷ ls) = min (quietOf l) (quietAll ls)
 
--- a table of no allowed size is unsound, and nothing is looked for in it
+-- R74: in a table of another size nothing is looked for
 unfoldable pub factsOf : List Link → Look → Facts
 factsOf xs k =
     cond (isFew (length xs))

@@ -1,4 +1,4 @@
--- Document 01, "Steps of the head": link numbers are places, from 1; port equals link. An event is offered to every link in order.
+-- Rules R146, R188: an event is offered to every link by its number.
 -- Assumes nothing.
 use Prim.Native.Nat.{ℕ, _%_, _^_}
 use mathlib.Core.Bool.{cond}
@@ -13,7 +13,7 @@ use Rattle.head_links.specs.declared.Link.{Link}
 use Rattle.head_links.specs.declared.Stepped.{Stepped}
 use Rattle.head_table.specs.declared.Event.{Event}
 
--- port equals link; a sound table's numbers end at 64
+-- R146; a sound table's numbers end at 64
 abbrev pub portOf : ℕ → ℕ
 portOf number = number % 2 ^ 16
 

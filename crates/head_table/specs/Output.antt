@@ -1,5 +1,4 @@
--- Document 01, "Steps of the head": frames go from the head's own address with the head's count, packed from the output's start; octets after
--- the last stay.
+-- Rules R147, R149: the frames of a call, and where they stand in the output.
 -- Assumes nothing.
 use Prim.Native.Nat.{ℕ, _+_, _*_, _/_}
 use mathlib.Core.Bool.{cond}
@@ -25,14 +24,14 @@ pub record Output : Type 0 where
 abbrev pub output : List ℕ → ℕ → Output
 output os n = record { octets = os; frames = n }
 
--- one frame more, over what was there; one that has no room is left out
+-- R149: one frame more, over what was there; one that has no room is left out
 unfoldable pub pasted : Output → List ℕ → Output
 pasted st f =
     cond (ltb (st .frames) (length (st .octets) / 60))
     (output (over (st .frames * 60) (st .octets) f) (st .frames + 1))
     st
 
--- frames go from the head's own address with the head's count
+-- R147
 abbrev pub messageOf : Sender → Address → Body → Message
 messageOf s to body = record { destination = to; source = s .source; timestamp = s .timestamp; body = body }
 
