@@ -1,4 +1,4 @@
-// Document 01's activation: the grant to wait for next, and the laser that goes on for it.
+// Activation (R125 to R132): the grant to wait for next, and the laser that goes on for it.
 ghost use mathlib.Core.Path.{_≡_};
 ghost use Rattle.box_activation.specs.Activation.{lightUp, begin, headFor, serve, activate};
 use box_grants::Chosen;

@@ -1,4 +1,4 @@
--- The three laws of a jump, of the box: a quiet tick is the box's tick, quiet ticks join, and each leaves one less to come.
+-- Lemmas: the three laws of a jump, of the box: a quiet tick is the box's tick, quiet ticks join, and each leaves one less to come.
 -- Assumes nothing.
 use Prim.Native.Nat.{ℕ, zero, suc, _≤_, min}
 use mathlib.Core.Path.{_≡_, refl, sym, _∙_}

@@ -1,4 +1,4 @@
--- A turn of the loop that advances a box, and its end; and an advance that needs no loop.
+-- Code: a turn of the loop that advances a box, and its end; and an advance that needs no loop. `ticks` of laws ties them to R193.
 -- Assumes nothing.
 use Prim.Native.Nat.{ℕ, _+_, _-_, _≤_, _<_, min}
 use mathlib.Core.Path.{_≡_, refl, sym, ap, _∙_}

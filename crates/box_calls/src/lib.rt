@@ -1,4 +1,4 @@
-// The floor box: document 01's box, with an own address, and its calls. Each answers every input.
+// The floor box: its processes with an own address, and its calls. Each answers every input (R72).
 ghost use mathlib.Core.Path.{_≡_};
 ghost use Rattle.frame.specs.declared.Reply.the-variants.{Done};
 ghost use Rattle.box_calls.specs.Answer.{bare, refused, messageOf, framed, accepted};
@@ -41,7 +41,7 @@ pub struct Advanced {
     pub made: u64,
 }
 
-// The frames of a box go from its own address to 01-80-C2-00-00-01 with its count.
+// R99.
 fn written(source: Address, now: Count, body: Body) -> [u8; 60]
     ensures { λ r. ⌜ r ≡ writeOf (messageOf source now body) .octets ⌝ }
 {

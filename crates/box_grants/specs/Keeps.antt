@@ -1,4 +1,4 @@
--- What the steps on the list keep, so that a sound list stays sound, and what the grant that is chosen stands on.
+-- Lemmas: what the steps on the list keep, so that a sound list stays sound, and what the grant that is chosen stands on.
 -- Assumes nothing.
 use Prim.Native.Nat.{ℕ, zero, suc, _+_, _≤_, _<_, min}
 use mathlib.Core.Path.{_≡_, refl, _∙_}

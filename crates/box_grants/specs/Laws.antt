@@ -1,4 +1,4 @@
--- What the code's steps on the array make of the list in it.
+-- Lemmas: what the code's steps on the array make of the list in it.
 -- Assumes nothing.
 use Prim.Native.Nat.{ℕ, suc, _+_, _-_, _≤_, _<_, min}
 use mathlib.Core.Path.{_≡_, refl, sym, ap, _∙_}

@@ -1,4 +1,4 @@
-// What a message does to the box's processes: document 01's discovery GATE, REGISTER and normal GATE.
+// What a message does to the box's processes: discovery GATE, REGISTER and normal GATE (R106 to R124).
 ghost use mathlib.Core.Path.{_≡_};
 ghost use mathlib.Core.List.{foldl};
 ghost use Rattle.frame.specs.Layout.{listed};

@@ -1,4 +1,4 @@
--- Soundness of the transmitter: each phase is entered soundly, a tick keeps it, and what a tick brings stands on it. And the laws of a jump.
+-- Lemmas: soundness of the transmitter: each phase is entered soundly, a tick keeps it, and what a tick brings stands on it. And the laws of a jump.
 -- Assumes nothing.
 use Prim.Native.Nat.{ℕ, suc, _+_, _-_, _^_, _≤_, _<_}
 use mathlib.Core.Path.{_≡_, refl}

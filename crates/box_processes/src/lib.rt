@@ -80,7 +80,7 @@ impl Processes {
         }
     }
 
-    // Entering WAIT darkens the laser, disables transmission, empties the list and stops all timers.
+    // Entering WAIT: R95.
     pub fn waiting(self) -> Processes
         ensures { λ r. ⌜ r ≡ waiting self ⌝ }
     {

@@ -1,4 +1,4 @@
--- Soundness of a registration: a fresh one is sound, each state is entered soundly, and a tick keeps it. And the laws of a jump.
+-- Lemmas: soundness of a registration: a fresh one is sound, each state is entered soundly, and a tick keeps it. And the laws of a jump.
 -- Assumes nothing.
 use Prim.Native.Nat.{ℕ, suc, _≤_}
 use native.Mathlib.Omega.{arith}

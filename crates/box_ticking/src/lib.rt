@@ -1,4 +1,4 @@
-// Document 01's tick: count, registration timer, report timer, transmitter, each judged on the state so far.
+// A tick of the box's processes, stage by stage (R136).
 ghost use mathlib.Core.Path.{_≡_};
 ghost use mathlib.Core.Bool.{true};
 ghost use Rattle.box_ticking.specs.Tick.{farewell, localDeregister, ring, shine, timed, transmitted, tickOf};

@@ -1,4 +1,4 @@
--- Document 01, "Sums to check": sums 1 to 10, proved together. The first four are read off the functions' own promises,
+-- Rules R205 to R214: sums 1 to 10, proved together. The first four are read off the functions' own promises,
 -- so that another promise breaks the theorem; the others are of definitions that the promises of box and head cite.
 -- Assumes nothing.
 use Prim.Native.Nat.{ℕ, _^_, _<_}

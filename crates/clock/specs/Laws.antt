@@ -1,4 +1,4 @@
--- The laws by which proofs over natural numbers use the distances, lengths and timers of this crate.
+-- Lemmas: the laws by which proofs over natural numbers use the distances, lengths and timers of this crate.
 -- Assumes nothing.
 use Prim.Native.Nat.{ℕ, suc, _+_, _-_, _*_, _%_, _^_, _<_, _≤_}
 use mathlib.Core.Path.{_≡_, refl, _∙_, sym, ap}

@@ -1,4 +1,4 @@
-// The clock: counts, lengths and timers. Document 01, "Counts and lengths" and "Numbers".
+// The clock: counts, lengths and timers (R6 to R29).
 ghost use Prim.Native.Nat.{_-_, min};
 ghost use mathlib.Core.Path.{_≡_};
 ghost use Rattle.clock.specs.Counts.{nextOf, laterOf, distance, isPast, nearer, reach, driftOf, roundTrip};

@@ -1,4 +1,4 @@
--- A box as words of 64 bits: which word holds what, when words are a box's, and what box they tell.
+-- Face: a box as words of 64 bits: which word holds what, when words are a box's, and what box they tell.
 -- Assumes nothing.
 use Prim.Native.Nat.{ℕ, _+_, _*_, _/_, _%_, _^_}
 use mathlib.Core.Bool.{Bool, true, cond, _&&_}

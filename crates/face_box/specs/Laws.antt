@@ -1,4 +1,4 @@
--- What the test says that nothing stands behind a list; every word is one grant's; what a call tells is nineteen words at most.
+-- Lemmas: what the test says that nothing stands behind a list; every word is one grant's; what a call tells is nineteen words at most.
 -- Assumes nothing.
 use Prim.Native.Nat.{ℕ, zero, suc, _+_, _*_, _≤_}
 use mathlib.Core.Path.{_≡_, refl}

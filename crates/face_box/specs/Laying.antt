@@ -1,5 +1,5 @@
--- How the code comes to what a call tells: the number of notices by their kinds, and nineteen words, of which as many are laid as it has. That
--- this is the page `Told` is in proofs/Told.antt.
+-- Code: how the code comes to what a call tells: the number of notices by their kinds, and nineteen words, of which as many are laid as it has.
+-- That this is the page `Told` is in proofs/Told.antt.
 -- Assumes nothing.
 use Prim.Native.Nat.{ℕ}
 use mathlib.Core.Bool.{cond}

@@ -1,4 +1,4 @@
--- What a call of the box tells, as words of 64 bits.
+-- Face: what a call of the box tells, as words of 64 bits.
 -- Assumes nothing.
 use Prim.Native.Nat.{ℕ}
 use mathlib.Core.Bool.{cond}

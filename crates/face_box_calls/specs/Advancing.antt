@@ -1,4 +1,4 @@
--- An advance where enough is lent.
+-- Code: an advance where enough is lent.
 -- Assumes nothing.
 use Prim.Native.Nat.{ℕ}
 use mathlib.Core.List.{List, [], _∷_}

@@ -1,4 +1,4 @@
--- What a call of the box leaves in the caller's memory: that of the box in the block, and nothing where too little is lent.
+-- Face: what a call of the box leaves in the caller's memory: that of the box in the block, and nothing where too little is lent.
 -- Assumes nothing.
 use Prim.Native.Nat.{ℕ}
 use mathlib.Core.Bool.{Bool, cond, _&&_}

@@ -1,4 +1,4 @@
--- The box that stands in a block of the caller's memory, and how many of its ticks are quiet.
+-- Face: the box that stands in a block of the caller's memory, and how many of its ticks are quiet.
 -- Assumes nothing.
 use Prim.Native.Nat.{ℕ}
 use mathlib.Core.Bool.{cond}

@@ -1,4 +1,4 @@
--- The words of a block are judged as the box in it is.
+-- Lemmas: the words of a block are judged as the box in it is.
 -- Assumes nothing.
 use Prim.Native.Nat.{ℕ, _+_, _-_, _*_, _/_, _%_, _^_, _≤_, _<_, min}
 use mathlib.Core.Path.{_≡_, refl, ap, _∙_}

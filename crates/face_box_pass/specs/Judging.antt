@@ -1,4 +1,4 @@
--- The quiet ticks of a box as the code comes to them, word by word; `specs/Judged.antt` shows that they are those of the box in the block.
+-- Code: the quiet ticks of a box as the code comes to them, word by word; `specs/Judged.antt` shows that they are those of the box in the block.
 -- Assumes nothing.
 use Prim.Native.Nat.{ℕ, _+_, _-_, _%_, min}
 use mathlib.Core.Bool.{Bool, true, false, cond, _&&_, _||_}

@@ -1,4 +1,4 @@
--- The words of the box that stands in a block, where there are enough, are the first of the block.
+-- Lemmas: the words of the box that stands in a block, where there are enough, are the first of the block.
 -- Assumes nothing.
 use Prim.Native.Nat.{ℕ, _≤_}
 use mathlib.Core.Path.{_≡_}

@@ -1,4 +1,4 @@
--- Quiet ticks made in place are those of the box in the block.
+-- Lemmas: quiet ticks made in place are those of the box in the block.
 -- Assumes nothing.
 use Prim.Native.Nat.{ℕ, _+_, _-_, _%_, _≤_}
 use mathlib.Core.Path.{_≡_, refl, ap, _∙_}

@@ -1,4 +1,4 @@
--- Quiet ticks as the code makes them, word by word; `specs/Passes.antt` shows that they are those of the box in the block.
+-- Code: quiet ticks as the code makes them, word by word; `specs/Passes.antt` shows that they are those of the box in the block.
 -- Assumes nothing.
 use Prim.Native.Nat.{ℕ, _+_, _-_, _%_}
 use mathlib.Core.Bool.{cond}

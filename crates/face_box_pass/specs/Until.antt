@@ -1,4 +1,4 @@
--- The quiet ticks that the code comes to are those of the box in the block.
+-- Lemmas: the quiet ticks that the code comes to are those of the box in the block.
 -- Assumes nothing.
 use Prim.Native.Nat.{ℕ, zero, suc, _+_, _-_, _/_, _%_, _^_, _≤_, _<_, min}
 use mathlib.Core.Path.{_≡_, refl, sym, ap, _∙_}

@@ -1,4 +1,4 @@
--- What a word of 64 bits says as a field: one that is too large is taken as the field's largest, which packs to another word.
+-- Face: what a word of 64 bits says as a field: one that is too large is taken as the field's largest, which packs to another word.
 -- Assumes nothing.
 use Prim.Native.Nat.{ℕ, min}
 use Rattle.clock.specs.declared.Count.{Count}

@@ -1,4 +1,4 @@
--- Ten words one by one, and the flags by their numbers.
+-- Lemmas: ten words one by one, and the flags by their numbers.
 -- Assumes nothing.
 use Prim.Native.Nat.{ℕ, _≤_}
 use mathlib.Core.Path.{_≡_, refl, sym, ap}

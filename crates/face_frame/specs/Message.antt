@@ -1,4 +1,4 @@
--- A message as ten words of 64 bits: which word holds what.
+-- Face: a message as ten words of 64 bits: which word holds what.
 -- Assumes nothing.
 use Prim.Native.Nat.{ℕ, _+_, _-_, _*_, _^_}
 use mathlib.Core.Bool.{cond}

@@ -1,4 +1,4 @@
--- The message that any ten words of 64 bits tell, and whether they are just its words.
+-- Face: the message that any ten words of 64 bits tell, and whether they are just its words.
 -- Assumes nothing.
 use Prim.Native.Nat.{ℕ, _-_, _/_, _%_, _^_, min}
 use mathlib.Core.Bool.{Bool, cond}

@@ -1,4 +1,4 @@
--- What reading a frame leaves in the caller's memory.
+-- Face: what reading a frame leaves in the caller's memory.
 -- Assumes nothing.
 use Prim.Native.Nat.{ℕ}
 use mathlib.Core.Bool.{cond}

@@ -1,4 +1,4 @@
--- The steps in which a frame is read into words, each as what the reader makes of it.
+-- Code: the steps in which a frame is read into words, each as what the reader makes of it.
 -- Assumes nothing.
 use Prim.Native.Nat.{ℕ, _+_, _*_, _/_, _%_, _^_}
 use mathlib.Core.Bool.{Bool, cond, _&&_}

@@ -1,4 +1,4 @@
--- The steps in which words are written into a frame: what each kind asks of them, and what it lays out. `proofs/Page.antt` shows that
+-- Code: the steps in which words are written into a frame: what each kind asks of them, and what it lays out. `proofs/Page.antt` shows that
 -- this is what `Write` answers.
 -- Assumes nothing.
 use Prim.Native.Nat.{ℕ, _+_, _*_, _/_, _%_, _^_}

@@ -1,4 +1,4 @@
--- What writing a message leaves in the caller's memory.
+-- Face: what writing a message leaves in the caller's memory.
 -- Assumes nothing.
 use Prim.Native.Nat.{ℕ}
 use mathlib.Core.Bool.{cond, _&&_}

@@ -1,4 +1,4 @@
--- A head as words of 64 bits: which word holds what, and what head any words tell: the one that packs to just these words, or nobody.
+-- Face: a head as words of 64 bits: which word holds what, and what head any words tell: the one that packs to just these words, or nobody.
 -- Assumes nothing.
 use Prim.Native.Nat.{ℕ}
 use mathlib.Core.Bool.{Bool, cond}

@@ -1,4 +1,4 @@
--- A table's words one link further on: what the loops over them do in a turn. And how many words a reply has.
+-- Lemmas: a table's words one link further on: what the loops over them do in a turn. And how many words a reply has.
 -- Assumes nothing.
 use Prim.Native.Nat.{ℕ, zero, suc, _+_, _*_, _/_, _≤_, _<_}
 use mathlib.Core.Bool.{Bool, true, false}

@@ -1,5 +1,5 @@
--- A table of links as words of 64 bits, five a link, one behind the other: which word holds what, and what links any words tell: those that
--- pack to just these words, or nobody's.
+-- Face: a table of links as words of 64 bits, five a link, one behind the other: which word holds what, and what links any words tell: those
+-- that pack to just these words, or nobody's.
 -- Assumes nothing.
 use Prim.Native.Nat.{ℕ, zero, suc, _*_, _/_, min}
 use mathlib.Core.Bool.{Bool, cond}

@@ -1,4 +1,4 @@
--- A head's answer as words of 64 bits.
+-- Face: a head's answer as words of 64 bits.
 -- Assumes nothing.
 use Prim.Native.Nat.{ℕ}
 use mathlib.Core.Bool.{cond}

@@ -1,5 +1,5 @@
--- What a call of the head leaves in the caller's memory: that of the core over the head and the links that the words tell, and nothing where
--- too little is lent.
+-- Face: what a call of the head leaves in the caller's memory: that of the core over the head and the links that the words tell, and nothing
+-- where too little is lent.
 -- Assumes nothing.
 use Prim.Native.Nat.{ℕ}
 use mathlib.Core.Bool.{Bool, false, cond, _&&_}

@@ -1,4 +1,4 @@
--- What a gate request asks for, told in words of 64 bits, one a grant.
+-- Face: what a gate request asks for, told in words of 64 bits, one a grant.
 -- Assumes nothing.
 use Prim.Native.Nat.{ℕ, _/_, _%_, _^_}
 use mathlib.Core.List.{List}

@@ -1,4 +1,4 @@
--- The core's call over lent links, with what it then leaves in the words.
+-- Code: the core's call over lent links, with what it then leaves in the words.
 -- Assumes nothing.
 use Prim.Native.Nat.{ℕ}
 use mathlib.Core.Bool.{cond}

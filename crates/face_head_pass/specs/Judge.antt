@@ -1,4 +1,4 @@
--- The words judged where they stand, as the code does it; `proofs/Page.antt` shows that this is what `Quiet` says.
+-- Code: the words judged where they stand; `proofs/Page.antt` shows that this is what `Quiet` says.
 -- Assumes nothing.
 use Prim.Native.Nat.{ℕ, zero, suc, _+_, _-_, _*_, _/_, _%_, min}
 use mathlib.Core.Bool.{Bool, true, false, cond, not, _&&_, _||_}

@@ -1,4 +1,4 @@
--- What stands in the caller's memory k ticks on, where none of them hands out anything.
+-- Face: what stands in the caller's memory k ticks on, where none of them hands out anything.
 -- Assumes nothing.
 use Prim.Native.Nat.{ℕ, zero, suc, _+_, _-_, _*_}
 use mathlib.Core.Bool.{cond}

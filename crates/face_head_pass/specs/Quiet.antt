@@ -1,4 +1,4 @@
--- How many ticks of a head hand out nothing, told of what stands in the caller's memory.
+-- Face: how many ticks of a head hand out nothing, told of what stands in the caller's memory.
 -- Assumes nothing.
 use Prim.Native.Nat.{ℕ}
 use mathlib.Core.Bool.{cond, _&&_}

@@ -1,4 +1,5 @@
--- How many ticks are sure to be done and to hand out nothing (`untilCall` of the box and of the head): what a program may take from the number.
+-- Statement: how many ticks are sure to be done and to hand out nothing (`untilCall` of the box and of the head): what a program may take from
+-- the number.
 -- Assumes nothing.
 use Prim.Native.Nat.{ℕ, _+_, _*_, _≤_, _<_}
 use mathlib.Core.Path.{_≡_}
@@ -7,19 +8,19 @@ use mathlib.Core.Logic.{_⊎_}
 use lib.ListN.{length, getD}
 use Rattle.face_words.specs.Words.{laid}
 use Rattle.face_head.specs.Table.{linksIn}
-use Rattle.face_box_calls.specs.Calls as boxcall
+use Rattle.face_box_calls.specs.Calls as boxface
 use Rattle.face_box_calls.specs.Calls.{untilCall as boxUntil}
-use Rattle.face_head_calls.specs.Calls as headcall
+use Rattle.face_head_calls.specs.Calls as headface
 use Rattle.face_head_calls.specs.Calls.{untilCall as headUntil}
 use Rattle.face_laws.specs.Box.{Stand}
 use Rattle.face_laws.specs.Head as stands
 
 -- an advance that makes all its k ticks and hands out nothing: no drift, no frame, no notice, and the memory for frames as it was
 pub record BoxPasses (k : ℕ) (block frames reply made : List ℕ) : Type 0 where
-  pub done : boxcall.advanceCall k block frames reply made .call .number ≡ 0
-  pub all-made : boxcall.advanceCall k block frames reply made .made ≡ laid (k ∷ []) made
-  pub no-frame : boxcall.advanceCall k block frames reply made .call .frames ≡ frames
-  pub nothing-told : boxcall.advanceCall k block frames reply made .call .reply ≡ laid (0 ∷ 0 ∷ 0 ∷ []) reply
+  pub done : boxface.advanceCall k block frames reply made .call .number ≡ 0
+  pub all-made : boxface.advanceCall k block frames reply made .made ≡ laid (k ∷ []) made
+  pub no-frame : boxface.advanceCall k block frames reply made .call .frames ≡ frames
+  pub nothing-told : boxface.advanceCall k block frames reply made .call .reply ≡ laid (0 ∷ 0 ∷ 0 ∷ []) reply
 
 -- every advance by no more ticks is one
 unfoldable pub BoxUntil : Type 0
@@ -47,10 +48,10 @@ BoxUntilEnds = (block : List ℕ) → 29 ≤ length block → Stand block → bo
 
 -- the same of the head: no frame and no notice, and the output as it was
 pub record HeadPasses (k : ℕ) (head links output reply made : List ℕ) : Type 0 where
-  pub done : headcall.advanceCall k head links output reply made .call .number ≡ 0
-  pub all-made : headcall.advanceCall k head links output reply made .made ≡ laid (k ∷ []) made
-  pub no-frame : headcall.advanceCall k head links output reply made .call .output ≡ output
-  pub nothing-told : headcall.advanceCall k head links output reply made .call .reply ≡ laid (0 ∷ 0 ∷ []) reply
+  pub done : headface.advanceCall k head links output reply made .call .number ≡ 0
+  pub all-made : headface.advanceCall k head links output reply made .made ≡ laid (k ∷ []) made
+  pub no-frame : headface.advanceCall k head links output reply made .call .output ≡ output
+  pub nothing-told : headface.advanceCall k head links output reply made .call .reply ≡ laid (0 ∷ 0 ∷ []) reply
 
 unfoldable pub HeadUntil : Type 0
 HeadUntil =
@@ -64,9 +65,9 @@ HeadUntilSound = (head links : List ℕ) → 1 ≤ headUntil head links → stan
 
 -- and exact: where head and table are sound, the tick after u hands out a frame, as word 0 of the reply says
 pub record HeadSends (u : ℕ) (head links output reply made : List ℕ) : Type 0 where
-  pub done : headcall.advanceCall (u + 1) head links output reply made .call .number ≡ 0
-  pub all-made : headcall.advanceCall (u + 1) head links output reply made .made ≡ laid ((u + 1) ∷ []) made
-  pub a-frame : 1 ≤ getD (headcall.advanceCall (u + 1) head links output reply made .call .reply) 0 0
+  pub done : headface.advanceCall (u + 1) head links output reply made .call .number ≡ 0
+  pub all-made : headface.advanceCall (u + 1) head links output reply made .made ≡ laid ((u + 1) ∷ []) made
+  pub a-frame : 1 ≤ getD (headface.advanceCall (u + 1) head links output reply made .call .reply) 0 0
 
 unfoldable pub HeadUntilEnds : Type 0
 HeadUntilEnds =

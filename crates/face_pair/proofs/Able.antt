@@ -37,7 +37,7 @@ use Rattle.pair_head.specs.End.{HeadEnd}
 use Rattle.pair_head.proofs.Fresh.{fresh-run}
 use Rattle.face_head.specs.Table.{linksIn, linksAt}
 use Rattle.face_head.specs.Laws.{length-links}
-use Rattle.face_head_calls.specs.Calls as headcall
+use Rattle.face_head_calls.specs.Calls as headface
 use Rattle.face_laws.proofs.HeadCalls.{fresh-length}
 use Rattle.head_survey.specs.Facts.{isFew}
 use Rattle.face_box_calls.specs.Calls.{isLent, boxAt, heardOf}
@@ -157,7 +157,7 @@ module _ (A : Address) where
   lends out = record { output = out; reply = starts.told }
 
   module _ (w : head.Words) (g : heads.Good w) where
-    room : headcall.isLent (length (w .head)) (length starts.told) ≡ true
+    room : headface.isLent (length (w .head)) (length starts.told) ≡ true
     room = ticked.lent-of (length (w .head)) (length starts.told) (g .room) (omega arith)
 
     head-heard : (link : ℕ) (os out : List ℕ) → areOctets os ≡ true

@@ -13,7 +13,7 @@ use Rattle.head_calls.specs.Fresh.{Freshly}
 use Rattle.head_laws.specs.Fresh.{fresh-done}
 use Rattle.face_head.specs.Laws.{length-links}
 use Rattle.face_head.specs.Table.{linksIn, linksAt}
-use Rattle.face_head_calls.specs.Calls as headcall
+use Rattle.face_head_calls.specs.Calls as headface
 use Rattle.face_box_calls.specs.Calls.{isLent}
 use Rattle.pair_demand.specs.Run.{Moment, Start}
 use Rattle.face_pair.specs.Box as box
@@ -44,8 +44,8 @@ box-starts A i =
 abbrev zeros : head.Words
 zeros = record { head = replicate 5 0; links = replicate 5 0 }
 
-pub room : headcall.isLent (length (zeros .head)) (length told) ≡ true
-unfolding headcall.isLent
+pub room : headface.isLent (length (zeros .head)) (length told) ≡ true
+unfolding headface.isLent
 room = refl
 
 one : isFew (length (linksAt (zeros .links))) ≡ true

@@ -1,5 +1,5 @@
--- A C program that advances head and box by several ticks in one call each: its calls are a run of single ticks of both, and demand 3 holds of
--- the words that it sees. How a program is read as a run is pair_demand's specs/Advance.antt.
+-- Statement: a C program that advances head and box by several ticks in one call each: its calls are a run of single ticks of both, and demand 3
+-- holds of the words that it sees. How a program is read as a run is on the page Advance of pair_demand.
 -- Assumes nothing.
 use Prim.Native.Nat.{ℕ, _+_, _*_, _≤_}
 use mathlib.Core.Path.{_≡_}
@@ -12,8 +12,8 @@ use Rattle.frame_range.specs.Fits.{isIndividual}
 use Rattle.face_head.specs.Table.{linksIn}
 use Rattle.pair_demand.specs.Run.{Span, last}
 use Rattle.pair_demand.specs.Advance.{Advance, Step, Runs, Reads, BoxDropsSeen, HeadDropsSeen, BoxWaitsSeen, HeadWaitsSeen, NoHalfOpenSeen}
-use Rattle.face_box_calls.specs.Calls as boxcall
-use Rattle.face_head_calls.specs.Calls as headcall
+use Rattle.face_box_calls.specs.Calls as boxface
+use Rattle.face_head_calls.specs.Calls as headface
 use Rattle.face_pair.specs.Box as box
 use Rattle.face_pair.specs.Box.{BoxWords}
 use Rattle.face_pair.specs.Head as head
@@ -30,11 +30,11 @@ pub record HeadAsked : Type 0 where
   pub lent : head.Lent
   pub made : List ℕ
 
-abbrev pub boxAdvance : List ℕ → BoxAsked → boxcall.AdvanceLeft
-boxAdvance block q = boxcall.advanceCall (q .ticks) block (q .lent .frames) (q .lent .reply) (q .made)
+abbrev pub boxAdvance : List ℕ → BoxAsked → boxface.AdvanceLeft
+boxAdvance block q = boxface.advanceCall (q .ticks) block (q .lent .frames) (q .lent .reply) (q .made)
 
-abbrev pub headAdvance : head.Words → HeadAsked → headcall.AdvanceLeft
-headAdvance w q = headcall.advanceCall (q .ticks) (w .head) (w .links) (q .lent .output) (q .lent .reply) (q .made)
+abbrev pub headAdvance : head.Words → HeadAsked → headface.AdvanceLeft
+headAdvance w q = headface.advanceCall (q .ticks) (w .head) (w .links) (q .lent .output) (q .lent .reply) (q .made)
 
 -- the first word of `made` is how many ticks were made
 module _ (A : Address) where

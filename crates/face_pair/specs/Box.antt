@@ -1,5 +1,5 @@
--- The floor box with the address A as a C program holds it, a block of words: an end of the pair, over the definitions that the promises of
--- the C face cite. It may be made fresh again at any time, in any memory, and lent in other memory as it is.
+-- Statement: the floor box with the address A as a C program holds it, a block of words: an end of the pair, over the definitions that the
+-- promises of the C face cite. It may be made fresh again at any time, in any memory, and lent in other memory as it is.
 -- Assumes nothing.
 use Prim.Native.Nat.{ℕ}
 use mathlib.Core.Path.{_≡_}

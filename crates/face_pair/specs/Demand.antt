@@ -1,4 +1,4 @@
--- Demand 3 of the words that a C program holds, and what it rests on. `NoHalfOpen` is pair_demand's specs/Run.antt.
+-- Statement: demand 3 of the words that a C program holds, and what it rests on. `NoHalfOpen` is on the page Run of pair_demand.
 -- Assumes nothing.
 use Prim.Native.Nat.{ℕ, _*_, _≤_}
 use mathlib.Core.List.{List}
@@ -17,8 +17,8 @@ use Rattle.face_pair.specs.Head.{HeadWords}
 -- Head and box are words in a C program's memory, and each call is one of the C face, over the words that the last one left. Either may be
 -- made fresh again at any time, in any memory, while frames are on their way, and be lent in other memory from one call to the next. A frame is
 -- heard as it was handed out but for its timestamp, which may be any.
--- If no link's words have A and a state other than idle from some moment through the next D + 62,500,000 ticks, word 2 of the box's block
--- isn't 3 at their end. If it isn't 3 through such a span, no link's words have A and registered at its end. Word 2 of the block is 2, and a
+-- R200: where for D + 62,500,000 ticks on end no link's words have A and a state other than idle, word 2 of the box's block isn't 3 when
+-- they are over. R201: where it isn't 3 for as long, no link's words then have A and registered. R202: word 2 of the block is 2, and a
 -- link's state 1, for no more than 3,125,000 ticks: the last of them ends the wait.
 unfoldable pub WordsDemand3 : Type 0
 WordsDemand3 = (A : Address) (D : ℕ) → NoHalfOpen (HeadWords A) (BoxWords A) D watchdog wait

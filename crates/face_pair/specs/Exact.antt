@@ -1,4 +1,4 @@
--- Demand 3's numbers are exact to the tick of the words too: with one tick less each of its four claims is false.
+-- Statement: demand 3's numbers are exact to the tick of the words too: with one tick less each of its four claims is false.
 -- Assumes nothing.
 use Prim.Native.Nat.{ℕ, _+_}
 use mathlib.Core.Path.{_≡_}

@@ -1,5 +1,5 @@
--- The head as a C program holds it, five words and five for each link, as the other end of the box at an address: over the definitions that
--- the promises of the C face cite. It may be made fresh again at any time, in any memory, and lent in other memory as it is.
+-- Statement: the head as a C program holds it, five words and five for each link, as the other end of the box at an address: over the
+-- definitions that the promises of the C face cite. It may be made fresh again at any time, in any memory, and lent in other memory as it is.
 -- Assumes nothing.
 use Prim.Native.Nat.{ℕ, suc, _+_, _*_, _<_}
 use mathlib.Core.Path.{_≡_}

@@ -1,6 +1,6 @@
--- A refusal changes nothing, in any words: what stands in a block, a table or an output is what stood there, word for word. A fresh start
--- that is refused for its address is the one exception: it leaves a block that holds address zero (facelaws' specs have it word for word).
--- And a slice that is shorter than a block is never touched.
+-- Statement: a refusal changes nothing, in any words: what stands in a block, a table or an output is what stood there, word for word. A fresh
+-- start that is refused for its address is the one exception: it leaves a block that holds address zero (the pages of face_laws have it word
+-- for word). And a slice that is shorter than a block is never touched.
 -- Assumes nothing.
 use Prim.Native.Nat.{ℕ, _<_}
 use mathlib.Core.Path.{_≡_}

@@ -1,5 +1,5 @@
--- A C program's calls on one box, or on one head, by themselves: any calls, in any order, each over the words that the last one left, in the
--- same memory or in other, with anything heard and anything lent.
+-- Statement: a C program's calls on one box, or on one head, by themselves: any calls, in any order, each over the words that the last one
+-- left, in the same memory or in other, with anything heard and anything lent.
 -- Assumes nothing.
 use Prim.Native.Nat.{ℕ, _*_, _≤_, _<_}
 use mathlib.Core.Path.{_≡_}
@@ -22,7 +22,7 @@ use Rattle.head_calls.specs.Serve.{serveOf}
 use Rattle.head_laws.specs.Runs as core-head
 use Rattle.face_head.specs.Head.{headWords}
 use Rattle.face_head.specs.Table.{tableWords, linksIn, linksAt}
-use Rattle.face_head_calls.specs.Calls as headcall
+use Rattle.face_head_calls.specs.Calls as headface
 use Rattle.face_head_calls.specs.Calls.{headAt, begunOf}
 use Rattle.pair_head.specs.End as end
 use Rattle.face_box_calls.specs.Calls.{Left, wordsAt, boxAt, isLent, heardOf, freshCall, boxCall, advanceCall}
@@ -120,18 +120,18 @@ pub record HeadPromise (w : head.Words) : Type 0 where
   pub links-words : take (5 * linksIn (length (w .links))) (w .links) ≡ tableWords (linksAt (w .links))
   pub reached : core-head.Run (headAt (w .head)) (linksAt (w .links))
   -- a request that is lent enough is the core's: its number, the head and the table that are then in the words, the frames handed out
-  pub request : (r : Call) (l : head.Lent) → headcall.isLent (length (w .head)) (length (l .reply)) ≡ true
+  pub request : (r : Call) (l : head.Lent) → headface.isLent (length (w .head)) (length (l .reply)) ≡ true
       → (head.served w r l .number ≡ numberOf (serveOf (headAt (w .head)) (linksAt (w .links)) r (l .output) .answer .reply))
       × (head.stateAt (head.answered (head.served w r l) .next) ≡ end.asked (head.stateAt w) r (l .output) .next)
       × (head.sentIn (head.served w r l) ≡ end.asked (head.stateAt w) r (l .output) .sent)
   -- one that is not is 100, and changes nothing
-  pub short : (r : Call) (l : head.Lent) → ¬ (headcall.isLent (length (w .head)) (length (l .reply)) ≡ true)
-      → head.served w r l ≡ headcall.left 100 (w .head) (w .links) (l .output) (l .reply)
+  pub short : (r : Call) (l : head.Lent) → ¬ (headface.isLent (length (w .head)) (length (l .reply)) ≡ true)
+      → head.served w r l ≡ headface.left 100 (w .head) (w .links) (l .output) (l .reply)
   -- octets that the reader takes are the request to hear their message, and others change nothing
   pub octets : (link : ℕ) (os : List ℕ) (l : head.Lent) → numberOf (readOf os .reply) ≡ 0
-      → headcall.heardOf link os (w .head) (w .links) (l .output) (l .reply) ≡ head.served w (Call.Hear link (readOf os .message)) l
+      → headface.heardOf link os (w .head) (w .links) (l .output) (l .reply) ≡ head.served w (Call.Hear link (readOf os .message)) l
   pub noise : (link : ℕ) (os : List ℕ) (l : head.Lent) → numberOf (readOf os .reply) ≢ 0
-      → head.answered (headcall.heardOf link os (w .head) (w .links) (l .output) (l .reply)) .next ≡ w
+      → head.answered (headface.heardOf link os (w .head) (w .links) (l .output) (l .reply)) .next ≡ w
   pub never : (c : head.Asked) → head.asked w c .reply ≢ 13
   pub ticks : (l : head.Lent) → 5 ≤ length (l .reply) → 60 * linksIn (length (w .links)) ≤ length (l .output)
       → head.served w Call.Tick l .number ≡ 0

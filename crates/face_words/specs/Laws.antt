@@ -1,4 +1,4 @@
--- What is left of laying words where they fit, what the test of two lists says, and a loop that fills an array with what it makes of
+-- Lemmas: what is left of laying words where they fit, what the test of two lists says, and a loop that fills an array with what it makes of
 -- another's elements.
 -- Assumes nothing.
 use Prim.Native.Nat.{ℕ, _+_, _≤_, _<_, min}

@@ -1,4 +1,4 @@
--- What words of 64 bits stand for, and how words are laid into lent memory.
+-- Face: what words of 64 bits stand for, and how words are laid into lent memory.
 -- Assumes nothing.
 use Prim.Native.Nat.{ℕ, _-_, _^_, min}
 use mathlib.Core.Bool.{Bool, true, false, _&&_}

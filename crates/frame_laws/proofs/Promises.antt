@@ -47,20 +47,20 @@ read-is p = p .promised ∙ ap readOf (p .lent)
 wrote-is : {m : Message} {w : Writing} → Wrote m w → w ≡ writeOf m
 wrote-is p = p .promised
 
--- 1. writing a valid message and reading it gives the message
+-- 1. R51: what is written is read back
 pub write-then-read : (m : Message) (w : Writing) (r : Reading) → Valid m → Wrote m w → Read (w .octets) r
     → r ≡ record { reply = Done; message = m }
 write-then-read m w r v p q =
     read-is q ∙ ap (λ (x : Writing). readOf (x .octets)) (wrote-is p ∙ write-done m v) ∙ read-encode m v
 
--- 2. reading a frame and writing it gives the frame with its pad zeroed
+-- 2. R51: and what is read is written back, its pad zeros
 pub read-then-write : (l : List ℕ) (r : Reading) (w : Writing) → Octets l → Read l r → r .reply ≡ Done → Wrote (r .message) w
     → w ≡ record { reply = Done; octets = zeroPad (20 + length (bodyOctets (r .message .body))) l }
 read-then-write l r w h p d q =
     let c : Carries l (r .message) = rw (← read-is p) at (carried l h) d in
     wrote-is q ∙ write-done (r .message) (c .valid) ∙ ap (λ (o : List ℕ). record { reply = Done; octets = o }) (sym (c .octets))
 
--- 3. the answers are those of document 01's pages: what is given is valid, and each number is given exactly when its row says
+-- 3. the answers are those of the pages: what is given is valid, and each number is given exactly when its row says
 pub read-page : (l : List ℕ) (r : Reading) → Octets l → Read l r → Reads l r
 read-page l r h p = rw (read-is p) (reads l h)
 

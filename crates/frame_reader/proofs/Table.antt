@@ -1,4 +1,4 @@
--- The reader's answers are document 01's: the number is that of the first test that is not passed, and a frame that passes carries
+-- The reader's answers are the page's: the number is that of the first test that is not passed, and a frame that passes carries
 -- the message.
 -- Assumes nothing.
 use Prim.Native.Nat.{ℕ}

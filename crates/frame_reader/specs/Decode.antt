@@ -1,4 +1,4 @@
--- What the reader makes of sixty octets: what stands where, and the tests in their order. `proofs/Table.antt` shows that this is what
+-- Code: what the reader makes of sixty octets: what stands where, and the tests in their order. `proofs/Table.antt` shows that this is what
 -- the page `Reading` of the crate `frame` answers.
 -- Assumes nothing.
 use Prim.Native.Nat.{ℕ, _+_, _/_, _%_}

@@ -1,4 +1,4 @@
--- The writer's answers are document 01's: a message in range has its frame, and any other is refused.
+-- The writer's answers are the page's: a message in range has its frame, and any other is refused.
 -- Assumes nothing.
 use mathlib.Core.Path.{_≡_, sym, _∙_}
 use mathlib.Core.Bool.{true, false, true≢false}

@@ -1,5 +1,5 @@
--- R191 to R195, advance, at the head: so many single ticks, stopping after the first that hands out a frame, are the ticks before the first
--- link rings, passed at once, and one more.
+-- Lemmas: R191 to R195 at the head: so many single ticks, stopping after the first that hands out a frame, are the ticks before the first link
+-- rings, passed at once, and one more.
 -- Assumes nothing.
 use Prim.Native.Nat.{ℕ, zero, suc, _+_, _-_, _*_, _/_, _≤_, _<_, min}
 use mathlib.Core.Path.{_≡_, refl, sym, ap, _∙_}

@@ -1,5 +1,5 @@
--- R191 to R195, advance, at the head: 13, 12 and 9 in that order, and else single ticks (`ticks` of laws' Jump). That the
--- head's call answers so is `advance-page` (Advance).
+-- Rules R191 to R195, at the head: 13, 12 and 9 in that order, and else single ticks (`ticks` of laws). That the head's call answers so is
+-- `advance-page` (Advance).
 -- Assumes nothing.
 use Prim.Native.Nat.{ℕ}
 use mathlib.Core.Bool.{Bool, true, false, _&&_}

@@ -1,5 +1,4 @@
--- Document 01, "Reply numbers" and "Each refusal changes nothing": a call of the head is accepted with every test passed, or it is refused
--- and changes nothing.
+-- Lemmas: R68 and R69 of the head: a call is accepted with every test passed, or it is refused and changes nothing.
 -- Assumes nothing.
 use Prim.Native.Nat.{ℕ, _-_, min}
 use mathlib.Core.Path.{_≡_, refl, ap, _∙_}

@@ -1,4 +1,4 @@
--- Document 01, "Steps of the head": what a call that is done leaves, sends and tells, by its plan.
+-- Lemmas: what a call of the head that is done leaves, sends and tells, by its plan.
 -- Assumes nothing.
 use Prim.Native.Nat.{ℕ}
 use mathlib.Core.Path.{_≡_, sym, ap, _∙_}

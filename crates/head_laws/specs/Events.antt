@@ -1,4 +1,4 @@
--- Document 01, "Sound table": an event that may be done on a sound table leaves it sound, and with as many links.
+-- Lemmas: an event that may be done on a sound table leaves it sound, and with as many links.
 -- Assumes nothing.
 use Prim.Native.Nat.{ℕ, suc, _≤_}
 use mathlib.Core.Path.{_≡_, refl}

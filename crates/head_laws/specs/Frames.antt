@@ -1,4 +1,4 @@
--- Document 01, "Steps of the head": the frames that a plan hands out, the head's own and then those of the links in order, one a link at most.
+-- Lemmas: R149 and R150: the frames that a plan hands out, the head's own and then those of the links, by number.
 -- Assumes nothing.
 use Prim.Native.Nat.{ℕ, suc, _+_, _*_, _^_, _<_, _≤_}
 use mathlib.Core.Path.{_≡_, refl, ap, _∙_}

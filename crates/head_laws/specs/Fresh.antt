@@ -1,5 +1,4 @@
--- Document 01, "A fresh head has count 0, window idle, every lent link idle": it is sound, and one that is refused holds address zero and
--- leaves the lent links as they were.
+-- Lemmas: a fresh head is sound (R153), and one that is refused is nobody's and touches no link (R155).
 -- Assumes nothing.
 use Prim.Native.Nat.{ℕ, suc}
 use mathlib.Core.Path.{_≡_, refl, ap}

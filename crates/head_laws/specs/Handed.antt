@@ -1,5 +1,4 @@
--- Document 01, "One frame a link at most, packed from the output's start; octets after the last stay": every frame of a call stands in the
--- output, and is the encoding of a valid message.
+-- Lemmas: R149: every frame of a call stands in the output, and is the encoding of a valid message.
 -- Assumes nothing.
 use Prim.Native.Nat.{ℕ, _*_, _^_, _<_, _≤_}
 use mathlib.Core.Path.{_≡_, refl, ap, _∙_}

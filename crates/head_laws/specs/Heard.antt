@@ -1,5 +1,4 @@
--- Document 01, "Steps of the head": a message changes the head in nothing, and at most the link that it came on, by a change that this
--- link's state allows.
+-- Lemmas: a message changes the head in nothing, and at most the link that it came on, by a change that this link's state allows.
 -- Assumes nothing.
 use Prim.Native.Nat.{ℕ}
 use mathlib.Core.Path.{_≡_, refl}

@@ -1,4 +1,4 @@
--- Document 01, "Sound table", of one link: what is known of a sound link in its state, where a link is held, and that a link that is made anew is sound.
+-- Lemmas: of one link: what is known of a sound link in its state, where a link is held, and that a link that is made anew is sound.
 -- Assumes nothing.
 use Prim.Native.Nat.{ℕ, _/_, _%_, _^_}
 use mathlib.Core.Path.{_≡_, refl, sym, ap, _∙_}

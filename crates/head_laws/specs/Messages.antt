@@ -1,4 +1,4 @@
--- Document 01, "Steps of the head": what a message that is accepted leaves, sends and tells.
+-- Lemmas: what a message that is accepted at the head leaves, sends and tells.
 -- Assumes nothing.
 use Prim.Native.Nat.{ℕ}
 use mathlib.Core.Path.{_≡_, refl, ap, _∙_}
@@ -107,7 +107,7 @@ module _ (h : Head) (xs : List Link) (os : List ℕ) (link : ℕ) (m : Message) 
     unfolding onRegistered
     report-heard e i = changes Report Change.Report Kind.Report e refl (rw i)
 
-    -- a message that finds no step is answered 0, without notice or frame
+    -- R70, R187
     pub ack-passed : (flag : RegisterAckFlag) (port : ℕ) (sync : Quanta) → m .body ≡ RegisterAck flag port sync → isRegistered (l .state) ≡ true
         → Leads h xs r os h [] quiet
     unfolding confirmed

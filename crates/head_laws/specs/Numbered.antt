@@ -1,5 +1,4 @@
--- Document 01, "Link numbers are places, from 1": which numbers the table has, which is the lowest idle one, and what a change of the link of
--- one number leaves and sends.
+-- Lemmas: R146: which numbers the table has, which is the lowest idle one, and what a change of the link of one number leaves and sends.
 -- Assumes nothing.
 use Prim.Native.Nat.{ℕ, suc, _+_, _<_, _≤_}
 use mathlib.Core.Path.{_≡_, refl, sym, ap, _∙_}

@@ -1,4 +1,4 @@
--- Ticks at which no link rings, passed at once: the table stays sound, and a leap is a tick of the table so passed.
+-- Lemmas: ticks at which no link rings, passed at once: the table stays sound, and a leap is a tick of the table so passed.
 -- Assumes nothing.
 use Prim.Native.Nat.{ℕ, suc, _+_, _-_, _≤_, _<_, _%_, _^_}
 use mathlib.Core.Path.{_≡_, refl, ap}

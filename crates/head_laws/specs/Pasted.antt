@@ -1,4 +1,4 @@
--- Document 01, "Steps of the head": frames are packed from the output's start; octets after the last stay.
+-- Lemmas: R149: where frames stand in the output, and what it keeps behind them.
 -- Assumes nothing.
 use Prim.Native.Nat.{ℕ, suc, _+_, _*_, _/_, _≤_}
 use mathlib.Core.Path.{_≡_, refl, sym, ap, _∙_}

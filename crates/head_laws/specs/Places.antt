@@ -1,4 +1,4 @@
--- Document 01, "Link numbers are places, from 1": a change is made of the link of its number, and every other link is as it was.
+-- Lemmas: R146: a change is made of the link of its number, and every other link is as it was.
 -- Assumes nothing.
 use Prim.Native.Nat.{ℕ, suc, _<_}
 use mathlib.Core.Path.{_≡_, refl, sym, ap, subst, _∙_}

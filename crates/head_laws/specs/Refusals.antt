@@ -1,5 +1,4 @@
--- Document 01, "Reply numbers": a call of the head is answered with the number of the first test that it does not pass, and a refusal changes
--- nothing.
+-- Lemmas: R68 and R69 of the head: a call is answered with the number of the first test that it does not pass, and a refusal changes nothing.
 -- Assumes nothing.
 use Prim.Native.Nat.{ℕ}
 use mathlib.Core.Path.{_≡_, refl, sym, ap, _∙_}
@@ -90,7 +89,7 @@ module _ (h : Head) (xs : List Link) (r : Call) (os : List ℕ) where
   unfolding serveOf
   plan-done p e = ap (λ (q : Plan). doneOf q xs os) e
 
-  -- the tests 13 and 12, then the request's own in document 01's order: the first that is not passed gives the number
+  -- the tests 13 and 12, then the request's own in their order (R68): the first that is not passed gives the number
   pub call-reply : serveOf h xs r os .answer .reply ≡ answerOf (allTests h xs r (length os))
   call-reply =
       reply-is

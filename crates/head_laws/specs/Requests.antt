@@ -1,4 +1,4 @@
--- Document 01, "Steps of the head": what a client's request that is done leaves, sends and tells.
+-- Lemmas: what a client's request that is done leaves, sends and tells.
 -- Assumes nothing.
 use Prim.Native.Nat.{ℕ}
 use mathlib.Core.Path.{_≡_, refl, sym, ap, _∙_}
@@ -110,7 +110,7 @@ module _ (h : Head) (xs : List Link) (os : List ℕ) where
   reject-does a pending sync d =
       leads h xs (Call.Reject a pending sync) os d h (To a (Register 0 RegisterFlag.Nack sync pending)) quiet refl
 
-  -- open: the discovery GATE, force bits 0, to 01-80-C2-00-00-01; the window waits the distance
+  -- R159, R160
   pub open-does : (start : Count) (length sync window : Quanta) → serveOf h xs (Call.Open start length sync window) os .answer .reply ≡ Done
       → Leads h xs (Call.Open start length sync window) os (withWindow h (opened (h .count) start window))
       (messageOf (from h) (record { 0 = 0x0180C2000001 }) (Discovery (record { start = start; length = length; force = false }) sync) ∷ []) quiet
@@ -130,7 +130,7 @@ module _ (h : Head) (xs : List Link) (os : List ℕ) where
         let r = Call.Reregister link sync in
         does h xs r os d link (Change.Reregister sync) quiet refl (held-number h xs r os d (call-accepted h xs r os d .passed .0))
 
-    -- deregister sends flag 2 with sync 0 and idles the link; it echoes pending 0
+    -- R169
     pub deregister-does : serveOf h xs (Call.Deregister link) os .answer .reply ≡ Done
         → Does h xs (Call.Deregister link) os link idle
         (messageOf (from h) (l .address) (Register link RegisterFlag.Deregister (record { 0 = 0 }) 0) ∷ []) quiet

@@ -1,5 +1,5 @@
--- Every head and table that a run from a fresh head reaches are sound: no call on them is answered 13, and a tick is refused only where the
--- output is too short.
+-- Lemmas: every head and table that a run from a fresh head reaches are sound: no call on them is answered 13, and a tick is refused only where
+-- the output is too short.
 -- Assumes nothing.
 use Prim.Native.Nat.{ℕ, _*_, _^_, _<_}
 use mathlib.Core.Path.{_≡_, sym, ap, _∙_}

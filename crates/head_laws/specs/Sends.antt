@@ -1,4 +1,4 @@
--- Document 01, "Frames": what a link sends at a tick or a change, and what the head itself sends, is in range.
+-- Lemmas: what a link sends at a tick or a change, and what the head itself sends, is in range.
 -- Assumes nothing.
 use Prim.Native.Nat.{ℕ, _^_, _<_}
 use mathlib.Core.Path.{_≡_, refl}

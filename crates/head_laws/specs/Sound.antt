@@ -1,4 +1,4 @@
--- Document 01, "Sound table": every call keeps a sound head and table sound, and the table as long as it was.
+-- Lemmas: every call keeps a sound head and table sound, and the table as long as it was.
 -- Assumes nothing.
 use Prim.Native.Nat.{ℕ, _-_, _^_, _<_, min}
 use mathlib.Core.Path.{_≡_, sym, ap, _∙_}

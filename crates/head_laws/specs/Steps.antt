@@ -1,5 +1,4 @@
--- Document 01, "Sound table", of one link: a tick and every change that the head makes of a link leave it sound, and held at no address of
--- another link.
+-- Lemmas: of one link: a tick and every change that the head makes of a link leave it sound, and held at no address of another link.
 -- Assumes nothing.
 use Prim.Native.Nat.{ℕ}
 use mathlib.Core.Path.{_≡_, refl, sym, _∙_}

@@ -1,4 +1,4 @@
--- Document 01, "Sound table": a tick leaves the links sound and their held addresses all different.
+-- Lemmas: a tick leaves the links sound and their held addresses all different.
 -- Assumes nothing.
 use Prim.Native.Nat.{ℕ, suc}
 use mathlib.Core.Path.{_≡_, refl, sym, _∙_}

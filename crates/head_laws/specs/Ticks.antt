@@ -1,5 +1,4 @@
--- Document 01, "Tick" at the head: count, window, then every link; "Wait or watchdog running out deregisters the link, ahead of a periodic
--- GATE .. due in the same tick."
+-- Lemmas: R188 and R189: a tick as a whole, and what it makes of a link whose wait or watchdog ends.
 -- Assumes nothing.
 use Prim.Native.Nat.{ℕ, suc}
 use mathlib.Core.Path.{_≡_, refl, ap, _∙_}

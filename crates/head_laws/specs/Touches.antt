@@ -1,4 +1,4 @@
--- Document 01, "Steps of the head": a call that is no tick changes at most the link that it is about, and a rejection none.
+-- Lemmas: a call that is no tick changes at most the link that it is about, and a rejection none.
 -- Assumes nothing.
 use Prim.Native.Nat.{ℕ, suc, _≤_}
 use mathlib.Core.Path.{_≡_, refl, sym, ap, _∙_}

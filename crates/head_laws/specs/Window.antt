@@ -1,4 +1,4 @@
--- Document 01, "Head window timer": a tick and the opening of a window keep the head sound.
+-- Lemmas: a tick and the opening of a window keep the head sound.
 -- Assumes nothing.
 use Prim.Native.Nat.{ℕ, zero, suc, _≤_}
 use mathlib.Core.Path.{_≡_, refl, sym, _∙_}

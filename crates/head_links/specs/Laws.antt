@@ -1,4 +1,4 @@
--- The laws of a jump, of one link, and that the tick after all of its quiet ones sends a frame.
+-- Lemmas: the laws of a jump, of one link, and that the tick after all of its quiet ones sends a frame.
 -- Assumes nothing.
 use Prim.Native.Nat.{ℕ, suc, _-_, _≤_, _<_, min}
 use mathlib.Core.Path.{_≡_, refl}

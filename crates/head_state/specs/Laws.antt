@@ -1,4 +1,4 @@
--- A window, and a head, k ticks on is as after k ticks.
+-- Lemmas: a window, and a head, k ticks on is as after k ticks.
 -- Assumes nothing.
 use Prim.Native.Nat.{ℕ, suc, _-_, _≤_, _<_}
 use mathlib.Core.Path.{_≡_, refl}

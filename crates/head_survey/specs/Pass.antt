@@ -1,4 +1,5 @@
--- The pass over the table as the code does it, link by link; `proofs/Page.antt` shows that it finds what `Facts` says, and `proofs/Marks.antt` that the marks hide no address that is held twice.
+-- Code: the pass over the table, link by link; `proofs/Page.antt` shows that it finds what `Facts` says, and `proofs/Marks.antt` that the marks
+-- hide no address that is held twice.
 -- Assumes nothing.
 use Prim.Native.Nat.{ℕ, _-_, _%_, min}
 use mathlib.Core.Bool.{Bool, false, cond, not, _&&_, _||_}

@@ -1,4 +1,4 @@
--- What the output keeps: its length, and a number of frames that a machine word holds; and which events need no turn.
+-- Lemmas: what the output keeps: its length, and a number of frames that a machine word holds; and which events need no turn.
 -- Assumes nothing.
 use Prim.Native.Nat.{ℕ, zero, suc, _+_, _*_, _/_, _^_, _<_, _≤_}
 use mathlib.Core.Path.{_≡_, refl, ap, _∙_}

@@ -1,4 +1,4 @@
--- The two ways that a test comes out.
+-- Lemmas: the two ways that a test comes out.
 -- Assumes nothing.
 use Prim.Native.Nat.{ℕ, _≤_, _<_}
 use mathlib.Core.Path.{_≡_, refl}

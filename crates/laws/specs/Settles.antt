@@ -1,4 +1,4 @@
--- A promise settles the whole answer: any two results that it allows are equal. It is stated of `Post`, which Rattle reads off the
+-- Statement: a promise settles the whole answer: any two results that it allows are equal. It is stated of `Post`, which Rattle reads off the
 -- function's own clauses (the module `Reads` below the function's own), so a weaker clause breaks the proof.
 -- Assumes nothing.
 use Prim.Native.Nat.{ℕ}

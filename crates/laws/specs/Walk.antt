@@ -1,4 +1,4 @@
--- A loop over the first n elements of an array is a fold of their list: what is left to do from here gives what the whole gives.
+-- Lemmas: a loop over the first n elements of an array is a fold of their list: what is left to do from here gives what the whole gives.
 -- Assumes nothing.
 use Prim.Native.Nat.{ℕ, _+_, _≤_, _<_}
 use mathlib.Core.Path.{_≡_, sym, _∙_, ap}

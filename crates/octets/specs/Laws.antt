@@ -1,4 +1,4 @@
--- The laws of octets, each once for every width: a number and its octets go into each other and back.
+-- Lemmas: the laws of octets, each once for every width: a number and its octets go into each other and back.
 -- Assumes nothing.
 use Prim.Native.Nat.{ℕ, zero, suc, _+_, _-_, _*_, _/_, _%_, _^_, _≤_, _<_}
 use mathlib.Core.Path.{_≡_, refl, sym, ap, _∙_}

@@ -1,4 +1,4 @@
--- The box with the address A as an end of the pair, over the definitions that its promises cite.
+-- Statement: the box with the address A as an end of the pair, over the definitions that its promises cite.
 -- Assumes nothing.
 use Prim.Native.Nat.{ℕ, zero, suc}
 use mathlib.Core.Path.{_≡_}

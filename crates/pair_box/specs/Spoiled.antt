@@ -1,4 +1,4 @@
--- Document 01, "Slips this trade knows": a box whose watchdog a discovery GATE restarts, as on floor 31.
+-- Statement: the box of floor 31 (R219): its watchdog is restarted by a discovery GATE.
 -- Assumes nothing.
 use Prim.Native.Nat.{ℕ}
 use mathlib.Core.Bool.{cond, _&&_}

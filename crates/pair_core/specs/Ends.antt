@@ -1,4 +1,4 @@
--- Short names for the head at an address, a box at the same address, and a moment of the two.
+-- Statement: short names for the head at an address, a box at the same address, and a moment of the two.
 -- Assumes nothing.
 use Prim.Native.Nat.{ℕ}
 use mathlib.Core.List.{List}

@@ -1,4 +1,4 @@
--- Demand 3's numbers are exact to the tick: each of its four claims holds at its number, and not at one less.
+-- Statement: demand 3's numbers are exact to the tick: each of its four claims holds at its number, and not at one less.
 -- Assumes nothing.
 use Prim.Native.Nat.{ℕ, _+_}
 use mathlib.Core.Path.{_≡_}

@@ -1,4 +1,4 @@
--- The night that demand 3 remembers: of the box of floor 31, whose watchdog a discovery GATE restarts, demand 3 is false.
+-- Statement: the night that demand 3 remembers: of the box of floor 31 (R219) it is false.
 -- Assumes nothing.
 use Prim.Native.Nat.{ℕ}
 use mathlib.Core.Path.{_≡_}

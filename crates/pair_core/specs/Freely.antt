@@ -1,5 +1,5 @@
--- Demand 3 where either end may be made fresh again in the middle of a run, while frames are on their way, and where a frame leaves with any
--- timestamp: senders stamp as a frame leaves.
+-- Statement: demand 3 where either end may be made fresh again in the middle of a run, while frames are on their way, and where a frame leaves
+-- with any timestamp: senders stamp as a frame leaves (R203).
 -- Assumes nothing.
 use Prim.Native.Nat.{ℕ}
 use Rattle.clock.specs.Numbers.{watchdog, wait}

@@ -1,4 +1,4 @@
--- Demand 3's "with no tick refused" asks nothing of the code of head and box, only that the head's caller lends enough room.
+-- Statement: that no tick is refused (R199) asks nothing of the code of head and box, only that the head's caller lends enough room.
 -- Assumes nothing.
 use Prim.Native.Nat.{ℕ, _*_, _≤_}
 use mathlib.Core.List.{List}

@@ -1,5 +1,5 @@
--- A program that advances both ends by several ticks in one call each, and how it is read as a run: tick by tick, each tick of one end
--- together with one of the other.
+-- Statement: a program that advances both ends by several ticks in one call each, and how it is read as a run (R204): tick by tick, each tick
+-- of one end together with one of the other.
 -- Assumes nothing.
 use mathlib.Core.Path.{_≡_}
 use mathlib.Core.List.{List, [], _∷_, _++_, map}

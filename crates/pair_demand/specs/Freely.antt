@@ -1,4 +1,4 @@
--- An end that may be made fresh again at any time of a run, and that may hear a frame changed on its way in what no law looks at.
+-- Statement: an end that may be made fresh again at any time of a run, and that may hear a frame changed on its way in what no law looks at (R203).
 -- Assumes nothing.
 use mathlib.Core.List.{[]}
 use Rattle.pair_demand.specs.Run.{Answer, End}

@@ -1,4 +1,4 @@
--- What each end must supply for the pair theorem: the laws of its definitions, one call at a time.
+-- Lemmas: what each end must supply for the pair theorem: the laws of its definitions, one call at a time.
 -- Assumes nothing.
 use mathlib.Core.Path.{_≡_}
 use mathlib.Core.Bool.{Bool, false}

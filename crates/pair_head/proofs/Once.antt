@@ -1,4 +1,4 @@
--- Document 01, "held addresses are .. all different": at most one link of a sound table is held at an address.
+-- R77: at most one link of a sound table is held at an address.
 -- Assumes nothing.
 use Prim.Native.Nat.{ℕ, suc}
 use mathlib.Core.Path.{_≡_, refl, sym, _∙_}

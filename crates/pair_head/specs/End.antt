@@ -1,4 +1,4 @@
--- Demand 3: the head, with the table and the outputs that it is lent, as the other end of the box at an address.
+-- Statement: the head, with the table and the outputs that it is lent, as the other end of the box at an address.
 -- Assumes nothing.
 use Prim.Native.Nat.{ℕ, zero, suc}
 use mathlib.Core.Path.{_≡_}

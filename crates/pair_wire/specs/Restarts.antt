@@ -1,4 +1,4 @@
--- Which frames restart a watchdog: the head's at the box of an address, the box's at the head.
+-- Lemmas: which frames restart a watchdog: the head's at the box of an address, the box's at the head.
 -- Assumes nothing.
 use Prim.Native.Nat.{ℕ}
 use mathlib.Core.Bool.{Bool, true, false, _&&_}

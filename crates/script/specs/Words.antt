@@ -1,4 +1,4 @@
--- What a line and its numbers mean to the programs that run a script.
+-- Lemmas: what a line and its numbers mean to the programs that run a script.
 -- Assumes nothing.
 use Prim.Native.Nat.{ℕ, _%_, _^_}
 use mathlib.Core.Bool.{Bool, true}
