@@ -1,6 +1,7 @@
 /* A floor box on a board whose timer ends with each millisecond, 62,500 quanta: first the example of crustnewt.h, word for word, then a board
  * that it runs on. Prints the board's clock and what happens; examples/coarse.txt has it, worked out by hand: the laser is switched at its
- * quantum, and a REPORT that is due while the board sleeps has the stamp of its own tick. */
+ * quantum, and a REPORT that is due while the board sleeps has the stamp of its own tick. Once it is registered the head falls silent for a
+ * second: the box leaves, asks to register again, and must be registered at the end. */
 #include "crustnewt.h"
 
 // The board's: it sleeps so many quanta, or less if a frame comes, one has gone or its millisecond is over, and says how many have
@@ -8,6 +9,7 @@
 uint64_t sleep_for(uint64_t quanta);
 size_t take_frame(uint8_t *octets);
 void queue_frame(const uint8_t *octets);
+void empty_queue(void);
 const uint8_t *first_in_queue(size_t *octets);
 void send_first(void);
 void laser(int on);
@@ -50,16 +52,24 @@ static uint64_t leisure(void)
     return crustnewt_box_ticks_until(box, CRUSTNEWT_BOX_WORDS) + 1;
 }
 
+// At first, and whenever the box has left. In WAIT the call is always done; nothing that waits is of use to a newcomer.
+static void join(void)
+{
+    if (box[CRUSTNEWT_BOX_STATE] == CRUSTNEWT_BOX_STATE_WAIT)
+        crustnewt_box_register(LENT);
+    if (box[CRUSTNEWT_BOX_STATE] == CRUSTNEWT_BOX_STATE_REGISTERING)
+        empty_queue();
+}
+
 uint8_t run(uint64_t address)
 {
     uint8_t octets[2048], number = crustnewt_box_fresh(address, LENT);
 
-    if (number == CRUSTNEWT_DONE)
-        number = crustnewt_box_register(LENT);
     while (number == CRUSTNEWT_DONE) {
         const uint8_t *control;
         size_t heard, waiting;
 
+        join();
         number = pass(sleep_for(leisure()));
         heard = take_frame(octets);
         if (heard > 0 && crustnewt_box_hear(octets, heard, random_number(), LENT) == CRUSTNEWT_DONE)
@@ -78,22 +88,25 @@ uint8_t run(uint64_t address)
 #include <string.h>
 
 #define MILLISECOND 62500
-#define MILLISECONDS 52
+#define MILLISECONDS 1004
 #define FRAME_QUANTA 42 /* that a frame takes to send */
 #define QUEUE 4
-#define ARRIVALS 3
+#define ARRIVALS 6
 #define EVERYONE 0x0180C2000001
 #define HEAD 0x020000000001
 #define BOX 0x020000000031
 #define GRANT(start, length) ((uint64_t)(start) << 32 | (length))
 
-/* The frames that come: when, and the words of their messages. */
+/* The frames that come: when, and the words of their messages. The head registers the box, is silent, and does it again. */
 static const struct {
     uint64_t at, words[CRUSTNEWT_MESSAGE_WORDS];
 } arrivals[ARRIVALS] = {
     {100000, {EVERYONE, HEAD, 99950, CRUSTNEWT_MESSAGE_DISCOVERY, 0, 0, GRANT(100050, 174)}},
     {100400, {BOX, HEAD, 100350, CRUSTNEWT_MESSAGE_REGISTER, 3, 1, 10, 16}},
     {100450, {BOX, HEAD, 100400, CRUSTNEWT_MESSAGE_GATE, 1, 0, GRANT(100600, 200)}},
+    {62700000, {EVERYONE, HEAD, 62699950, CRUSTNEWT_MESSAGE_DISCOVERY, 0, 0, GRANT(62700050, 174)}},
+    {62700400, {BOX, HEAD, 62700350, CRUSTNEWT_MESSAGE_REGISTER, 3, 1, 10, 16}},
+    {62700450, {BOX, HEAD, 62700400, CRUSTNEWT_MESSAGE_GATE, 1, 0, GRANT(62700600, 200)}},
 };
 
 static uint64_t now, sending_until;
@@ -157,11 +170,25 @@ size_t take_frame(uint8_t *octets)
     return CRUSTNEWT_FRAME_OCTETS;
 }
 
+static void take_first_out(void)
+{
+    memmove(queue[0], queue[1], --queued * CRUSTNEWT_FRAME_OCTETS);
+}
+
+/* The oldest frame makes room: a box without grants goes on to hand out REPORTs. */
 void queue_frame(const uint8_t *octets)
 {
     say("hands out", octets, 1);
-    must(queued < QUEUE, "more frames than there is room for");
+    if (queued == QUEUE)
+        take_first_out();
     memcpy(queue[queued++], octets, CRUSTNEWT_FRAME_OCTETS);
+}
+
+void empty_queue(void)
+{
+    if (queued > 0)
+        printf("%8" PRIu64 "  throws away %zu frames\n", now, queued);
+    queued = 0;
 }
 
 const uint8_t *first_in_queue(size_t *octets)
@@ -173,7 +200,7 @@ const uint8_t *first_in_queue(size_t *octets)
 void send_first(void)
 {
     say("sends", queue[0], 0);
-    memmove(queue[0], queue[1], --queued * CRUSTNEWT_FRAME_OCTETS);
+    take_first_out();
     sending_until = now + FRAME_QUANTA;
 }
 
