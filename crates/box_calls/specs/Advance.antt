@@ -4,7 +4,7 @@ use Prim.Native.Nat.{ℕ}
 use mathlib.Core.Bool.{Bool, _&&_}
 use mathlib.Core.List.{[], _∷_}
 use lib.Dec.{eqb}
-use Rattle.laws.specs.Jump.{ticks}
+use Rattle.laws.specs.Ticks.{ticks}
 use Rattle.clock.specs.Numbers.{inReach}
 use Rattle.frame.specs.Card.{_unless_, given, numberOf}
 use Rattle.frame.specs.declared.Reply.the-variants.{Done, Grant, Unsound}

@@ -1,24 +1,10 @@
--- Rule R193, of the box: ticks that are sure to be done and to hand out nothing, and the box after them.
+-- Rule R193, of the box: how many ticks are sure to be done and to hand out nothing.
 -- Assumes nothing.
 use Prim.Native.Nat.{ℕ}
 use mathlib.Core.Bool.{cond}
-use lib.Dec.{eqb}
-use Rattle.frame.specs.declared.Reply.the-variants.{Done}
-use Rattle.box_processes.specs.Pass.{passedOf as processesPassed, quietOf as processesQuiet}
-use Rattle.box_calls.specs.Answer.{bare}
+use Rattle.box_processes.specs.Pass.{quietOf as processesQuiet}
 use Rattle.box_calls.specs.Box.{soundOf}
 use Rattle.box_calls.specs.declared.FloorBox.{FloorBox}
-use Rattle.box_calls.specs.declared.Answer.{Answer}
 
 unfoldable pub quietOf : FloorBox → ℕ
 quietOf b = cond (soundOf b) (processesQuiet (b .processes)) 0
-
-abbrev pub passedOf : FloorBox → ℕ → FloorBox
-passedOf b k = record { address = b .address; processes = processesPassed (b .processes) k }
-
--- the answer of the last of k quiet ticks after the one that was answered so
-unfoldable pub leapOf : ℕ → Answer → Answer
-leapOf k r = cond (eqb k 0) r (bare (passedOf (r .next) k) Done)
-
-abbrev pub quietAfter : Answer → ℕ
-quietAfter r = quietOf (r .next)

@@ -39,7 +39,8 @@ use Rattle.box_ticking.specs.Tick.{timed, transmitted, tickOf as processesTick}
 use Rattle.box_calls.specs.Advance.{isDone, isSilent, again, out}
 use Rattle.box_calls.specs.Answer.{bare, accepted}
 use Rattle.box_calls.specs.Box.{soundOf, tickOf}
-use Rattle.box_calls.specs.Pass.{quietOf, passedOf, leapOf, quietAfter}
+use Rattle.box_calls.specs.Leap.{passedOf, leapOf, quietAfter}
+use Rattle.box_calls.specs.Pass.{quietOf}
 use Rattle.box_calls.specs.declared.FloorBox.{FloorBox}
 use Rattle.box_calls.specs.declared.Answer.{Answer}
 

@@ -6,14 +6,16 @@ use mathlib.Core.Bool.{true, false}
 use mathlib.Core.Logic.{_≢_}
 use native.Mathlib.Omega.{arith}
 use borrow.Author.Tests.{ne-eqb}
-use Rattle.laws.specs.Jump.{ticks, ticks-told, ticks-end, jump, turn-next, turn-first, turn-refused}
+use Rattle.laws.specs.Jump.{ticks-told, ticks-end, jump, turn-next, turn-first, turn-refused}
+use Rattle.laws.specs.Ticks.{ticks}
 use Rattle.clock.specs.Laws.{reach-parts}
 use Rattle.clock.specs.Numbers.{inReach}
 use Rattle.frame.specs.declared.Reply.the-variants.{Done}
 use Rattle.box_calls.specs.Advance.{isDone, isSilent, again, out, advanceOf}
 use Rattle.box_calls.specs.Answer.{bare}
 use Rattle.box_calls.specs.Box.{tickOf}
-use Rattle.box_calls.specs.Pass.{quietOf, passedOf, leapOf, quietAfter}
+use Rattle.box_calls.specs.Leap.{passedOf, leapOf, quietAfter}
+use Rattle.box_calls.specs.Pass.{quietOf}
 use Rattle.box_calls.specs.Quiet.{quiet-sound, box-jumps}
 use Rattle.box_calls.specs.declared.Advanced.{Advanced}
 use Rattle.box_calls.specs.declared.Answer.{Answer}

@@ -6,7 +6,8 @@ use mathlib.Core.Bool.{true, false}
 use mathlib.Core.Logic.{⊎-elim}
 use native.Mathlib.Omega.{arith}
 use Rattle.laws.specs.Cases.{decided}
-use Rattle.laws.specs.Jump.{ticks, ticks-next, ticks-first, ticks-refused, ticks-told, ticks-end}
+use Rattle.laws.specs.Jump.{ticks-next, ticks-first, ticks-refused, ticks-told, ticks-end}
+use Rattle.laws.specs.Ticks.{ticks}
 use Rattle.clock.specs.Laws.{reach-parts}
 use Rattle.clock.specs.Numbers.{inReach}
 use Rattle.frame.specs.declared.Reply.the-variants.{Done, Grant, Unsound}

@@ -16,7 +16,8 @@ use Rattle.clock.specs.Laws.{reach-parts}
 use Rattle.clock.specs.Numbers.{inReach}
 use Rattle.box_calls.specs.Answer.{bare}
 use Rattle.box_calls.specs.Box.{tickOf}
-use Rattle.box_calls.specs.Pass.{quietOf, passedOf}
+use Rattle.box_calls.specs.Leap.{passedOf}
+use Rattle.box_calls.specs.Pass.{quietOf}
 use Rattle.box_calls.specs.Quiet.{quiet-one}
 use Rattle.box_calls.specs.Turns.{advance-quiet}
 use Rattle.frame.specs.declared.Reply.the-variants.{Done}

@@ -13,7 +13,8 @@ use Rattle.face_box.specs.Laws.{clear-is, words-again}
 use Rattle.clock.specs.Counts.{laterOf}
 use Rattle.clock.specs.Timers.{passedOf as timerPassed}
 use Rattle.box_calls.specs.Box.{soundOf}
-use Rattle.box_calls.specs.Pass.{quietOf, passedOf}
+use Rattle.box_calls.specs.Leap.{passedOf}
+use Rattle.box_calls.specs.Pass.{quietOf}
 use Rattle.box_grants.specs.Listed.{packed}
 use Rattle.box_light.specs.Pass.{passedOf as lightPassed}
 use Rattle.box_light.specs.declared.Light.{Light}

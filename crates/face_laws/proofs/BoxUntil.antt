@@ -34,7 +34,8 @@ use Rattle.box_light.specs.Sound.{soundOf as lightSound}
 use Rattle.frame.specs.declared.Reply.the-variants.{Done}
 use Rattle.box_calls.specs.Answer.{bare}
 use Rattle.box_calls.specs.Box.{soundOf}
-use Rattle.box_calls.specs.Pass.{quietOf, passedOf}
+use Rattle.box_calls.specs.Leap.{passedOf}
+use Rattle.box_calls.specs.Pass.{quietOf}
 use Rattle.box_calls.specs.Turns.{advance-quiet}
 use Rattle.box_calls.specs.declared.FloorBox.{FloorBox}
 use Rattle.face_words.specs.Words.{laid}

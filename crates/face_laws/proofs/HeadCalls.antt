@@ -20,7 +20,8 @@ use Rattle.head_state.specs.declared.Head.{Head}
 use Rattle.face_head_calls.specs.Calls.{Left, left, BegunLeft, begunLeft, headAt, isLent, laidHead, keptHead, keptLinks, begunHead, handed, servedOf, cleared, begunOf}
 use Rattle.head_laws.specs.Fresh.{fresh-unsound, fresh-refused}
 use Rattle.head_laws.specs.Places.{length-places}
-use Rattle.head_laws.specs.Refusals.{telling, call-reply, refused-unchanged}
+use Rattle.head_laws.specs.Refusals.{call-reply, refused-unchanged}
+use Rattle.head_laws.specs.Stated.{telling}
 use Rattle.head_laws.specs.Sound.{call-length}
 use Rattle.face_head.specs.Head.{headWords, headIn}
 use Rattle.face_head.specs.Laws.{links-few, length-links, length-table, told-few}

@@ -24,10 +24,11 @@ use Rattle.head_judging.specs.declared.Call.{Call}
 use Rattle.head_calls.specs.Fresh.{Freshly, freshOf}
 use Rattle.head_laws.specs.Events.{table-parts}
 use Rattle.head_laws.specs.Runs.{run-sound}
-use Rattle.pair_wire.specs.Carried.{areOctets, messageIn}
-use Rattle.pair_wire.specs.Stamped.{stamped, stamped-octets}
+use Rattle.pair_wire.specs.Message.{areOctets, messageIn, stamped}
+use Rattle.pair_wire.specs.Stamped.{stamped-octets}
 use Rattle.pair_demand.specs.Run.{Answer, End}
-use Rattle.pair_demand.specs.Face.{Face, As, Untouched}
+use Rattle.pair_demand.specs.Face.{Face}
+use Rattle.pair_demand.specs.Faithful.{As, Untouched}
 use Rattle.pair_demand.proofs.Face.{unchanged}
 use Rattle.pair_demand.proofs.Plays.{Comes, Able}
 use Rattle.pair_box.specs.End as box-end

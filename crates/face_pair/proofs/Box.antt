@@ -28,11 +28,12 @@ use Rattle.box_laws.specs.Calls.{Call, answer, Outcome, unsound, refuses, accep
 use Rattle.box_laws.specs.Frames.{CallTyped}
 use Rattle.face_words.specs.Laws.{laid-whole}
 use Rattle.face_words.specs.Words.{laid}
-use Rattle.pair_wire.specs.Carried.{areOctets, messageIn, carries-valid}
+use Rattle.pair_wire.specs.Carried.{carries-valid}
+use Rattle.pair_wire.specs.Message.{areOctets, messageIn, stamped}
 use Rattle.pair_wire.specs.Restarts.{callsBox, downRestarts}
-use Rattle.pair_wire.specs.Stamped.{stamped, stamped-octets, stamped-tested}
+use Rattle.pair_wire.specs.Stamped.{stamped-octets, stamped-tested}
 use Rattle.pair_demand.specs.Run as run
-use Rattle.pair_demand.specs.Face.{As, Untouched, Does, does, spares, begins, Hears, hears, misses, Faithful}
+use Rattle.pair_demand.specs.Faithful.{As, Untouched, Does, does, spares, begins, Hears, hears, misses, Faithful}
 use Rattle.pair_demand.proofs.Face.{unchanged}
 use Rattle.pair_box.specs.End as core
 use Rattle.pair_box.specs.End.{BoxEnd}

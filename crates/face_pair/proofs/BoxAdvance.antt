@@ -29,7 +29,7 @@ use Rattle.box_laws.specs.Calls as calls
 use Rattle.box_laws.specs.Runs.{holds-sound}
 use Rattle.face_words.specs.Words.{laid}
 use Rattle.pair_demand.specs.Run as run
-use Rattle.pair_demand.specs.Advance.{untold, Alike, Singly}
+use Rattle.pair_demand.specs.Singly.{untold, Alike, Singly}
 use Rattle.pair_demand.proofs.Small.{carried}
 use Rattle.pair_box.specs.End as core
 use Rattle.pair_box.specs.End.{stateOf}

@@ -27,15 +27,16 @@ use Rattle.head_calls.specs.Serve.{Served, serveOf}
 use Rattle.head_laws.specs.Events.{table-parts}
 use Rattle.head_laws.specs.Fresh.{fresh-unsound, fresh-range, fresh-done}
 use Rattle.head_laws.specs.Refusals.{refused-unchanged}
-use Rattle.head_laws.specs.Runs.{Run, calls, run-sound}
+use Rattle.head_laws.specs.Runs.{run-sound}
+use Rattle.head_laws.specs.Stated.{Run, calls}
 use Rattle.head_laws.specs.Sound.{call-length}
 use Rattle.face_words.specs.Laws.{laid-over, laid-whole}
 use Rattle.face_words.specs.Words.{laid}
-use Rattle.pair_wire.specs.Carried.{areOctets, messageIn}
+use Rattle.pair_wire.specs.Message.{areOctets, messageIn, stamped}
 use Rattle.pair_wire.specs.Restarts.{restartsHead, upRestarts}
-use Rattle.pair_wire.specs.Stamped.{stamped, stamped-octets, stamped-tested}
-use Rattle.pair_demand.specs.Face.{As, Untouched, Does, does, spares, begins, Hears, misses, Faithful}
-use Rattle.pair_demand.specs.Face as face
+use Rattle.pair_wire.specs.Stamped.{stamped-octets, stamped-tested}
+use Rattle.pair_demand.specs.Faithful.{As, Untouched, Does, does, spares, begins, Hears, misses, Faithful}
+use Rattle.pair_demand.specs.Faithful as face
 use Rattle.pair_demand.proofs.Face.{unchanged}
 use Rattle.pair_head.specs.End as end
 use Rattle.pair_head.specs.End.{HeadState, framesIn, HeadEnd}

@@ -29,12 +29,13 @@ use Rattle.head_laws.specs.Advance.{Ready, leapOf, quietAfter, head-jumps, serv
 use Rattle.head_laws.specs.Advanced as advanced
 use Rattle.head_laws.specs.Advanced.{stillAt, again, out}
 use Rattle.head_laws.specs.Passing.{passedAll, passed-length, all-none}
-use Rattle.head_laws.specs.Runs.{Run, calls, run-sound, run-never-unsound, run-tick}
+use Rattle.head_laws.specs.Runs.{run-sound, run-never-unsound, run-tick}
+use Rattle.head_laws.specs.Stated.{Run, calls}
 use Rattle.head_laws.specs.Sound.{call-length}
 use Rattle.face_words.specs.Laws.{laid-whole}
 use Rattle.face_words.specs.Words.{laid}
 use Rattle.pair_demand.specs.Run as run
-use Rattle.pair_demand.specs.Advance.{untold, Alike, Singly}
+use Rattle.pair_demand.specs.Singly.{untold, Alike, Singly}
 use Rattle.pair_demand.proofs.Small.{carried}
 use Rattle.pair_head.specs.End.{HeadState, framesIn, linkAt}
 use Rattle.face_head.specs.Head.{headWords}

@@ -23,7 +23,8 @@ use Rattle.head_links.specs.declared.State.the-variants as Of
 use Rattle.head_survey.specs.Facts.{allSound}
 use Rattle.head_laws.specs.Events.{table-parts}
 use Rattle.head_laws.specs.Links.{waiting-parts, registered-parts}
-use Rattle.head_laws.specs.Runs.{Run, run-sound, run-count}
+use Rattle.head_laws.specs.Runs.{run-sound, run-count}
+use Rattle.head_laws.specs.Stated.{Run}
 use Rattle.face_laws.specs.Head.{WindowFits, HeadFits, LinkFits, LinksFit}
 use Rattle.face_pair.proofs.BoxFits.{off-fits, runs-fits}
 

@@ -26,8 +26,7 @@ use Rattle.box_laws.specs.Calls.{Call, answer, Outcome, unsound, refuses, accep
 use Rattle.box_laws.specs.Runs.{holds-sound}
 use Rattle.head_laws.specs.Fresh.{fresh-range, fresh-done}
 use Rattle.head_laws.specs.Runs.{run-never-unsound}
-use Rattle.pair_wire.specs.Carried.{areOctets}
-use Rattle.pair_wire.specs.Stamped.{stamped}
+use Rattle.pair_wire.specs.Message.{areOctets, stamped}
 use Rattle.pair_demand.specs.Run as run
 use Rattle.pair_box.proofs.Gauge.{Ok}
 use Rattle.face_box_calls.specs.Calls.{Left, boxAt, heardOf}

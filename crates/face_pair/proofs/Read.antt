@@ -26,7 +26,7 @@ use Rattle.face_head.specs.Table.{stateWord, linkWords, five, linksIn, linksAt,
 use Rattle.pair_box.specs.End as end
 use Rattle.pair_head.specs.End.{linkAt, HeadEnd}
 use Rattle.face_box_calls.specs.Calls.{wordsAt, boxAt}
-use Rattle.pair_demand.specs.Face.{Same, Tells}
+use Rattle.pair_demand.specs.Faithful.{Same, Tells}
 use Rattle.face_pair.specs.Box.{BoxFace}
 use Rattle.face_pair.specs.Head as head
 use Rattle.face_pair.specs.Head.{stateAt, HeadFace, HeadWords}

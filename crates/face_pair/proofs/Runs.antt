@@ -30,8 +30,8 @@ use Rattle.box_laws.specs.Runs as core
 use Rattle.head_judging.specs.declared.Call.{Call as HeadCall}
 use Rattle.head_laws.specs.Fresh.{fresh-done}
 use Rattle.head_calls.specs.Fresh.{Freshly}
-use Rattle.pair_wire.specs.Carried.{areOctets, messageIn}
-use Rattle.pair_demand.specs.Face.{As, Untouched}
+use Rattle.pair_wire.specs.Message.{areOctets, messageIn}
+use Rattle.pair_demand.specs.Faithful.{As, Untouched}
 use Rattle.pair_box.specs.End as end
 use Rattle.pair_box.specs.End.{BoxEnd}
 use Rattle.pair_head.specs.End as head-end

@@ -10,8 +10,9 @@ use lib.ListN.{length, drop, take-append-drop}
 use Rattle.laws.specs.Cases.{cut}
 use Rattle.octets.specs.Laws.{bytes-field, join}
 use Rattle.octets.specs.Octets.{fieldOf}
-use Rattle.pair_wire.specs.Carried.{areOctets, messageIn, octets-of}
-use Rattle.pair_wire.specs.Stamped.{stamped, short-length, no-frame}
+use Rattle.pair_wire.specs.Carried.{octets-of}
+use Rattle.pair_wire.specs.Message.{areOctets, messageIn, stamped}
+use Rattle.pair_wire.specs.Stamped.{short-length, no-frame}
 
 abbrev pub own : List ℕ → ℕ
 own os = fieldOf os 16 4

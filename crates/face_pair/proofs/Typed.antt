@@ -5,7 +5,7 @@ use mathlib.Core.List.{List}
 use native.Mathlib.Omega.{arith}
 use lib.ListN.{getD}
 use Rattle.head_judging.specs.declared.Call.{Call}
-use Rattle.head_laws.specs.Sends.{RequestTyped}
+use Rattle.head_laws.specs.Stated.{RequestTyped}
 use Rattle.face_head_calls.specs.Gate.{askedOf}
 
 start-fits : (w : ℕ) → w < 2 ^ 64 → w / 2 ^ 32 < 2 ^ 32

@@ -9,8 +9,7 @@ use lib.Dec.{eqb}
 use lib.ListN.{take, getD}
 use Rattle.frame.specs.declared.Address.{Address}
 use Rattle.box_calls.specs.Box.{registerOf, deregisterOf, tickOf}
-use Rattle.pair_wire.specs.Carried.{areOctets}
-use Rattle.pair_wire.specs.Stamped.{stamped}
+use Rattle.pair_wire.specs.Message.{areOctets, stamped}
 use Rattle.pair_demand.specs.Run.{Answer, End}
 use Rattle.pair_demand.specs.Face.{Face, through}
 use Rattle.pair_box.specs.End.{BoxEnd}

@@ -11,10 +11,8 @@ use lib.ListN.{length, take, getD}
 use Rattle.frame.specs.declared.Address.{Address}
 use Rattle.frame_range.specs.Fits.{isIndividual}
 use Rattle.head_judging.specs.declared.Call.{Call}
-use Rattle.head_laws.specs.Sends.{RequestTyped}
-use Rattle.head_laws.specs.Touches.{NotTick}
-use Rattle.pair_wire.specs.Carried.{areOctets, messageIn}
-use Rattle.pair_wire.specs.Stamped.{stamped}
+use Rattle.head_laws.specs.Stated.{RequestTyped, NotTick}
+use Rattle.pair_wire.specs.Message.{areOctets, messageIn, stamped}
 use Rattle.pair_demand.specs.Run.{Answer, End}
 use Rattle.pair_demand.specs.Face.{Face, through}
 use Rattle.pair_head.specs.End.{HeadState, framesIn, handedIn, Foreign, HeadEnd}

@@ -19,14 +19,14 @@ use Rattle.face_box.specs.Box.{boxWords}
 use Rattle.head_judging.specs.declared.Call.{Call}
 use Rattle.frame_reader.specs.Decode.{readOf}
 use Rattle.head_calls.specs.Serve.{serveOf}
-use Rattle.head_laws.specs.Runs as core-head
+use Rattle.head_laws.specs.Stated as core-head
 use Rattle.face_head.specs.Head.{headWords}
 use Rattle.face_head.specs.Table.{tableWords, linksIn, linksAt}
 use Rattle.face_head_calls.specs.Calls as headface
 use Rattle.face_head_calls.specs.Calls.{headAt, begunOf}
 use Rattle.pair_head.specs.End as end
 use Rattle.face_box_calls.specs.Calls.{Left, wordsAt, boxAt, isLent, heardOf, freshCall, boxCall, advanceCall}
-use Rattle.pair_wire.specs.Carried.{areOctets}
+use Rattle.pair_wire.specs.Message.{areOctets}
 use Rattle.face_words.specs.Words.{laid}
 use Rattle.face_pair.specs.Box as box
 use Rattle.face_pair.specs.Head as head

@@ -1,38 +1,20 @@
--- What writing answers, and the steps in which the writer lays the octets out. `proofs/Page.antt` shows that this is what the page
--- `Writing` of the crate `frame` answers.
+-- Rules R49, R149: what writing answers, as one answer, and octets laid over others.
 -- Assumes nothing.
-use Prim.Native.Nat.{ℕ, zero, suc, _+_, _≤_}
-use mathlib.Core.Path.{_≡_, ap}
+use Prim.Native.Nat.{ℕ}
 use mathlib.Core.Bool.{cond}
-use mathlib.Core.List.{List, [], _∷_, _++_}
-use native.Mathlib.Nat.{zero-add, suc-add, not-suc-le-zero, le-of-suc-le-suc}
-use lib.ListN.{length, take, drop, replicate}
-use Rattle.octets.specs.Octets.{bytes}
+use mathlib.Core.List.{List, _++_}
+use lib.ListN.{length, drop, replicate}
 use Rattle.frame_range.specs.Fits.{fitsMessage}
-use Rattle.frame.specs.Layout.{frameOf, encode}
-use Rattle.frame.specs.declared.Grant.{Grant}
+use Rattle.frame.specs.Layout.{encode}
 use Rattle.frame.specs.declared.Message.{Message}
 use Rattle.frame.specs.declared.Reply.the-variants.{Done, Range}
 use Rattle.frame.specs.declared.Writing.{Writing}
-use Rattle.frame_writer.specs.declared.Header.{Header}
 
 -- l with the octets b written over it from a
 abbrev pub over : ℕ → List ℕ → List ℕ → List ℕ
 over zero l b = b ++ drop (length b) l
 over (suc a) [] b = []
 over (suc a) (x ∷ l) b = x ∷ over a l b
-
--- which leaves what stands before a, and what stands after the octets
-pub over-is : (a : ℕ) (l b : List ℕ) → a ≤ length l → over a l b ≡ take a l ++ (b ++ drop (a + length b) l)
-over-is zero l b h = rw zero-add
-over-is (suc a) [] b h = absurd (not-suc-le-zero h)
-over-is (suc a) (x ∷ l) b h = rw suc-add (ap (λ (t : List ℕ). x ∷ t) (over-is a l b (le-of-suc-le-suc h)))
-
-abbrev pub headed : Header → ℕ → List ℕ → List ℕ
-headed h opcode body = frameOf (h .destination .0) (h .source .0) opcode (h .timestamp .0) body
-
-abbrev pub grantOver : ℕ → List ℕ → Grant → List ℕ
-grantOver a l g = over (a + 4) (over a l (bytes 4 (g .start .0))) (bytes 2 (g .length .0))
 
 -- a refusal is sixty zeros
 unfoldable pub writeOf : Message → Writing

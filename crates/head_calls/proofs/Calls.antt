@@ -41,7 +41,8 @@ use Rattle.head_survey.specs.Facts.{factsOf}
 use Rattle.head_table.specs.Events.{drivenOf, turnsOf}
 use Rattle.head_table.specs.Output.{output, noteLink}
 use Rattle.head_judging.specs.Judge.{lookOf, judgeOf}
-use Rattle.head_calls.specs.Fresh.{begunOf, isDone, clearing as clearingOf}
+use Rattle.head_calls.specs.Clearing.{clearing as clearingOf}
+use Rattle.head_calls.specs.Fresh.{begunOf, isDone}
 use Rattle.head_calls.specs.Serve.{senderOf, answerOf}
 use Rattle.lent.proofs.Lending.{at-list}
 use Rattle.head_links.proofs.Values.{Link-row, Sent-row, Sent-mach, Sent-tells}

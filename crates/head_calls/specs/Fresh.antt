@@ -15,7 +15,6 @@ use Rattle.lent.specs.Folds.{places}
 use Rattle.head_links.specs.Link.{idle}
 use Rattle.head_links.specs.declared.Link.{Link}
 use Rattle.head_survey.specs.Facts.{isFew}
-use Rattle.head_table.specs.declared.Event.{Event}
 use Rattle.head_plans.specs.Plan.{quiet}
 use Rattle.head_calls.specs.declared.Answer.{Answer}
 
@@ -29,10 +28,6 @@ freshly a xs = record { answer = a; table = xs }
 
 abbrev pub isDone : Reply → Bool
 isDone r = eqb (numberOf r) 0
-
--- R153, R155: an accepted head clears the links, a refused one offers them nothing
-unfoldable pub clearing : Bool → Event
-clearing done = cond done Event.Clear Event.Nothing
 
 -- R154
 abbrev pub testedFor : Address → ℕ → Reply

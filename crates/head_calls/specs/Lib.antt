@@ -1,2 +1,3 @@
+pub mod Clearing
 pub mod Fresh
 pub mod Serve

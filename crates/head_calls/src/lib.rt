@@ -1,6 +1,7 @@
 // The head's calls, over the table of links and the output that the caller lends. Each answers every input.
 ghost use mathlib.Core.Path.{_≡_};
-ghost use Rattle.head_calls.specs.Fresh.{begunOf, isDone, clearing, freshly, freshOf};
+ghost use Rattle.head_calls.specs.Clearing.{clearing};
+ghost use Rattle.head_calls.specs.Fresh.{begunOf, isDone, freshly, freshOf};
 ghost use Rattle.head_calls.specs.Serve.{senderOf, answerOf, served, serveOf};
 use frame::Address;
 use frame::Reply;

@@ -11,7 +11,8 @@ use borrow.Author.Tests.{lt-ltb, le-leb, leb-true, ne-eqb}
 use lib.Dec.{eqb, ltb, leb}
 use lib.ListN.{length}
 use Rattle.laws.specs.Cases.{either, cut}
-use Rattle.laws.specs.Jump.{ticks, Jumps, ticks-told, ticks-end, leap-next, turn-next}
+use Rattle.laws.specs.Jump.{Jumps, ticks-told, ticks-end, leap-next, turn-next}
+use Rattle.laws.specs.Ticks.{ticks}
 use Rattle.clock.specs.Counts.{nextOf}
 use Rattle.clock.specs.Laws.{passed-left, quiet-off, quiet-on, reach-parts}
 use Rattle.clock.specs.Numbers.{furthestAdvance, inReach}
@@ -46,7 +47,8 @@ use Rattle.head_calls.specs.Serve.{Served, served, sentOf, doneOf, serveOf}
 use Rattle.head_laws.specs.Calls.{known, plan-is}
 use Rattle.head_laws.specs.Events.{table-parts}
 use Rattle.head_laws.specs.Passing.{passedAll, passed-length, all-joins, all-none, head-none, leap-driven, leap-sent}
-use Rattle.head_laws.specs.Refusals.{telling, done-refused}
+use Rattle.head_laws.specs.Refusals.{done-refused}
+use Rattle.head_laws.specs.Stated.{telling}
 use Rattle.head_laws.specs.Sound.{Sound, facts-quiet, call-keeps}
 use Rattle.head_laws.specs.Table.{sound-first}
 use Rattle.head_laws.specs.Advanced.{stillAt, again, isDone, isSilent, Made, out, withMade, advancedOf}

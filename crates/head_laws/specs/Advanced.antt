@@ -6,7 +6,7 @@ use mathlib.Core.Bool.{Bool, true, false, _&&_}
 use mathlib.Core.List.{List, [], _∷_}
 use lib.Dec.{eqb}
 use lib.ListN.{length}
-use Rattle.laws.specs.Jump.{ticks}
+use Rattle.laws.specs.Ticks.{ticks}
 use Rattle.clock.specs.Numbers.{inReach}
 use Rattle.frame.specs.Card.{_unless_, given, numberOf}
 use Rattle.frame.specs.declared.Reply.the-variants.{Done, Grant, Output, Unsound}
@@ -19,7 +19,7 @@ use Rattle.head_plans.specs.declared.Kind.{Kind}
 use Rattle.head_plans.specs.declared.Kind.the-variants as kind
 use Rattle.head_calls.specs.Serve.{Served, served, serveOf}
 use Rattle.head_survey.specs.Facts.{soundTable}
-use Rattle.head_laws.specs.Refusals.{telling}
+use Rattle.head_laws.specs.Stated.{telling}
 
 -- so many ticks on, with nothing handed out
 abbrev pub stillAt : Head → List Link → List ℕ → Served

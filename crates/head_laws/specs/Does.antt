@@ -28,8 +28,8 @@ use Rattle.head_judging.specs.declared.Call.{Call}
 use Rattle.head_calls.specs.Serve.{doneOf, serveOf}
 use Rattle.head_laws.specs.Calls.{planned, known}
 use Rattle.head_laws.specs.Events.{table-parts, nothing-keeps}
-use Rattle.head_laws.specs.Frames.{sentBy, framesOf, nothing-frames}
-use Rattle.head_laws.specs.Handed.{callFrames}
+use Rattle.head_laws.specs.Frames.{nothing-frames}
+use Rattle.head_laws.specs.Stated.{sentBy, framesOf, callFrames}
 use Rattle.head_laws.specs.Numbered.{Has, held-has, changed-link, changed-frames}
 use Rattle.head_laws.specs.Refusals.{call-accepted}
 use Rattle.head_laws.specs.Sound.{facts-link}

@@ -9,7 +9,7 @@ use lib.Dec.{eqb}
 use lib.ListN.{length}
 use Rattle.laws.specs.Cases.{either}
 use Rattle.frame.specs.declared.Address.{Address}
-use Rattle.lent.specs.Folds.{places-still}
+use Rattle.lent.specs.Laws.{places-still}
 use Rattle.head_links.specs.Sound.{soundOf}
 use Rattle.head_links.specs.declared.Link.{Link}
 use Rattle.head_survey.specs.Facts.{isFew, holds, anyHolds, allSound, different, soundTable, linkFrom, quietAll}

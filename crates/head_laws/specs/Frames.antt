@@ -7,9 +7,9 @@ use mathlib.Core.List.{List, [], _∷_, _++_, append-assoc, append-nil}
 use mathlib.Core.Logic.{_⊎_, inl, inr}
 use native.Mathlib.Omega.{arith}
 use lib.ListN.{length, length-append}
-use Rattle.frame.specs.Range.{Valid}
 use Rattle.frame.specs.declared.Message.{Message}
-use Rattle.frame_range.specs.Fits.{fitsAddress, fitsMessage, valid-of}
+use Rattle.frame_range.specs.Fits.{fitsAddress, fitsMessage}
+use Rattle.frame_range.specs.Laws.{valid-of}
 use Rattle.lent.specs.Folds.{each}
 use Rattle.head_links.specs.declared.Link.{Link}
 use Rattle.head_links.specs.declared.Sent.{Sent}
@@ -23,25 +23,8 @@ use Rattle.head_plans.specs.declared.Plan.{Plan}
 use Rattle.head_calls.specs.Serve.{senderOf, sentOf}
 use Rattle.head_laws.specs.Pasted.{packed, pasted-packed}
 use Rattle.head_laws.specs.Sends.{SentFits, EventFits, react-sends}
+use Rattle.head_laws.specs.Stated.{sentBy, linkFrames, framesOf, AllValid}
 use Rattle.head_laws.specs.Table.{sound-first}
-
--- what one party sends: a message, or none
-abbrev pub sentBy : Sender → Sent → List Message
-sentBy s Nothing = []
-sentBy s (To a body) = messageOf s a body ∷ []
-
--- what the links send at an event, where the first has the number k
-abbrev pub linkFrames : Event → Sender → ℕ → List Link → List Message
-linkFrames e s k [] = []
-linkFrames e s k (l ∷ ls) = sentBy s (reactOf e l k .sent) ++ linkFrames e s (suc k) ls
-
--- the frames of a call: the head's own first, then those of the links in order
-abbrev pub framesOf : Plan → List Link → List Message
-framesOf p xs = sentBy (senderOf p) (p .lead) ++ linkFrames (p .event) (senderOf p) 1 xs
-
-abbrev pub AllValid : List Message → Type 0
-AllValid [] = Unit {0}
-AllValid (m ∷ ms) = Valid m × AllValid ms
 
 both-valid : (ms ns : List Message) → AllValid ms → AllValid ns → AllValid (ms ++ ns)
 both-valid [] ns v w = w

@@ -20,7 +20,7 @@ use Rattle.head_calls.specs.Fresh.{Freshly, freshly, begunOf, freshOf}
 use Rattle.head_laws.specs.Events.{table-of}
 use Rattle.head_laws.specs.Links.{idle-sound}
 use Rattle.head_laws.specs.Places.{length-places}
-use Rattle.head_laws.specs.Refusals.{telling}
+use Rattle.head_laws.specs.Stated.{telling}
 use Rattle.head_laws.specs.Window.{head-of}
 
 -- every lent link idle

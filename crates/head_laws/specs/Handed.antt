@@ -10,7 +10,6 @@ use borrow.Author.Tests.{leb-true}
 use lib.Dec.{leb}
 use lib.ListN.{length, drop}
 use Rattle.frame.specs.Tests.{Passed}
-use Rattle.frame.specs.declared.Message.{Message}
 use Rattle.frame.specs.declared.Reply.{Reply}
 use Rattle.head_state.specs.Head.{soundOf}
 use Rattle.head_state.specs.declared.Head.{Head}
@@ -27,12 +26,13 @@ use Rattle.head_judging.specs.declared.Call.{Call}
 use Rattle.head_calls.specs.Serve.{senderOf, sentOf, doneOf, planOf, serveOf}
 use Rattle.head_laws.specs.Calls.{tests, planned, known, Outcome, unsound, short, refuses, accepts, outcome}
 use Rattle.head_laws.specs.Events.{table-parts}
-use Rattle.head_laws.specs.Frames.{framesOf, AllValid, SenderFits, links-few, nothing-frames, frames-apart, frames-valid, frames-packed}
+use Rattle.head_laws.specs.Frames.{SenderFits, links-few, nothing-frames, frames-apart, frames-valid, frames-packed}
 use Rattle.head_laws.specs.Heard.{heard-message}
 use Rattle.head_laws.specs.Links.{individual-fits}
-use Rattle.head_laws.specs.Pasted.{encoded, packed}
+use Rattle.head_laws.specs.Pasted.{packed}
+use Rattle.head_laws.specs.Stated.{encoded, framesOf, AllValid, callFrames, RequestTyped}
 use Rattle.head_laws.specs.Refusals.{nothing-sent}
-use Rattle.head_laws.specs.Sends.{RequestTyped, planned-event, planned-lead}
+use Rattle.head_laws.specs.Sends.{planned-event, planned-lead}
 use Rattle.head_laws.specs.Sound.{planned-head, planned-count}
 use Rattle.head_laws.specs.Window.{head-parts}
 
@@ -67,10 +67,6 @@ refused-packs h x xs os =
       few = rw (refused-frames h x xs) (omega arith);
       output = nothing-sent (senderOf (refused h x)) xs (output os 0) ∙ rw (refused-frames h x xs);
     }
-
--- the frames of a call
-abbrev pub callFrames : Head → List Link → Call → List ℕ → List Message
-callFrames h xs r os = framesOf (planOf h xs r (length os)) xs
 
 module _ (h : Head) (xs : List Link) (r : Call) (os : List ℕ) (k : RequestTyped r) (c : h .count .0 < 2 ^ 32) where
   accepted-packs : soundOf h ≡ true → soundTable xs ≡ true → 60 * length xs ≤ length os → Passed (tests r h (known xs r))

@@ -21,7 +21,8 @@ use Rattle.head_survey.specs.Facts.{idleFrom, linkFrom}
 use Rattle.head_table.specs.Events.{portOf, reactOf, reacted}
 use Rattle.head_table.specs.declared.Event.{Event}
 use Rattle.head_table.specs.declared.Sender.{Sender}
-use Rattle.head_laws.specs.Frames.{sentBy, linkFrames, sent-few}
+use Rattle.head_laws.specs.Frames.{sent-few}
+use Rattle.head_laws.specs.Stated.{sentBy, linkFrames}
 use Rattle.head_laws.specs.Places.{at-number, elsewhere}
 
 -- the numbers of a table whose first link has the number k

@@ -17,11 +17,7 @@ use Rattle.frame_reader.proofs.Forth.{body-short}
 use Rattle.frame_writer.proofs.Page.{write-done}
 use Rattle.frame_writer.specs.Write.{over, writeOf}
 use Rattle.head_table.specs.Output.{Output, output, pasted}
-
--- the octets of frames, one after another
-abbrev pub encoded : List Message → List ℕ
-encoded [] = []
-encoded (m ∷ ms) = encode m ++ encoded ms
+use Rattle.head_laws.specs.Stated.{encoded}
 
 encoded-append : (ms ns : List Message) → encoded (ms ++ ns) ≡ encoded ms ++ encoded ns
 encoded-append [] ns = refl

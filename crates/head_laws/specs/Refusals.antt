@@ -7,31 +7,28 @@ use mathlib.Core.List.{List, [], _∷_}
 use mathlib.Core.Logic.{_≢_}
 use native.Mathlib.Omega.{arith}
 use lib.ListN.{length}
-use Rattle.frame.specs.Card.{Test, _unless_, given, numberOf, answerOf}
+use Rattle.frame.specs.Card.{Test, given, numberOf, answerOf}
 use Rattle.frame.specs.Tests.{Passed}
 use Rattle.frame.specs.declared.Reply.{Reply}
 use Rattle.frame.specs.declared.Reply.the-variants.{Done, Output, Unsound}
 use Rattle.head_state.specs.Head.{soundOf}
 use Rattle.head_state.specs.declared.Head.{Head}
-use Rattle.lent.specs.Folds.{each, each-still}
+use Rattle.lent.specs.Folds.{each}
+use Rattle.lent.specs.Laws.{each-still}
 use Rattle.head_links.specs.declared.Link.{Link}
 use Rattle.head_survey.specs.Facts.{soundTable}
 use Rattle.head_survey.specs.declared.Facts.{Facts}
 use Rattle.head_table.specs.Output.{output, noteLink, Output as Written}
 use Rattle.head_table.specs.declared.Event.{Event}
 use Rattle.head_table.specs.declared.Sender.{Sender}
-use Rattle.head_plans.specs.Plan.{quiet, refused}
+use Rattle.head_plans.specs.Plan.{refused}
 use Rattle.head_plans.specs.declared.Plan.{Plan}
 use Rattle.head_judging.specs.declared.Call.{Call}
 use Rattle.head_calls.specs.Serve.{served, senderOf, sentOf, doneOf, planOf, serveOf}
-use Rattle.head_calls.specs.declared.Answer.{Answer}
 use Rattle.head_laws.specs.Calls.{tests, planned, known, allTests, plan-is, Outcome, unsound, short, refuses, accepts, outcome}
 use Rattle.head_laws.specs.Events.{nothing-keeps}
 use Rattle.head_laws.specs.Heard.{heard-message}
-
--- what is told of a refusal, and of a fresh head
-abbrev pub telling : Reply → Head → Answer
-telling x h = record { reply = x; next = h; frames = 0; notice = quiet; made = 0 }
+use Rattle.head_laws.specs.Stated.{telling}
 
 -- no event, no frame of a link
 pub nothing-sent : (s : Sender) (xs : List Link) (o : Written) → each (noteLink Event.Nothing s) 1 xs o ≡ o

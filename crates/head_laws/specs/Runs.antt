@@ -10,30 +10,21 @@ use native.Mathlib.Omega.{arith}
 use lib.Dec.{leb}
 use lib.ListN.{length}
 use Rattle.frame.specs.Card.{numberOf}
-use Rattle.frame.specs.declared.Address.{Address}
 use Rattle.frame.specs.declared.Reply.{Reply}
 use Rattle.frame.specs.declared.Reply.the-variants.{Done, Output, Unsound}
-use Rattle.frame_range.specs.Fits.{isIndividual}
 use Rattle.head_state.specs.Head.{begun, soundOf}
 use Rattle.head_state.specs.declared.Head.{Head}
 use Rattle.head_links.specs.declared.Link.{Link}
-use Rattle.head_survey.specs.Facts.{isFew, soundTable}
+use Rattle.head_survey.specs.Facts.{soundTable}
 use Rattle.head_judging.specs.Judge.{hasRoom}
 use Rattle.head_plans.specs.declared.Plan.{Plan}
 use Rattle.head_judging.specs.declared.Call.{Call}
-use Rattle.head_calls.specs.Fresh.{freshOf}
 use Rattle.head_calls.specs.Serve.{served, doneOf, planOf, serveOf}
 use Rattle.head_laws.specs.Calls.{known, Outcome, unsound, short, refuses, accepts, outcome}
 use Rattle.head_laws.specs.Fresh.{nobody, fresh-done, nobody-unsound}
-use Rattle.head_laws.specs.Refusals.{telling, planned-done, reply-is, call-reply, refused-unchanged}
+use Rattle.head_laws.specs.Refusals.{planned-done, reply-is, call-reply, refused-unchanged}
 use Rattle.head_laws.specs.Sound.{Sound, planned-count, fresh-sound, call-keeps}
-
--- the heads and tables that a run reaches: a fresh head with 1 to 64 lent links, and what any call leaves, accepted or refused
-pub data Run : Head → List Link → Type 0 where
-  fresh : (a : Address) (xs : List Link) → isIndividual a ≡ true → isFew (length xs) ≡ true
-      → Run (freshOf a xs .answer .next) (freshOf a xs .table)
-  calls : (h : Head) (xs : List Link) → Run h xs → (r : Call) (os : List ℕ)
-      → Run (serveOf h xs r os .answer .next) (serveOf h xs r os .table)
+use Rattle.head_laws.specs.Stated.{Run, fresh, calls, telling}
 
 both-sound : {h : Head} {xs : List Link} → Sound h xs → (soundOf h && soundTable xs) ≡ true
 both-sound {h} {xs} s = and-eq-true-iff (soundOf h) (soundTable xs) .1 (s .head, s .table)

@@ -23,7 +23,6 @@ use Rattle.head_links.specs.Link.{isRegistered}
 use Rattle.head_links.specs.Sound.{soundOf}
 use Rattle.head_links.specs.Steps.{withWatchdog, gated, changeOf}
 use Rattle.head_links.specs.Tick.{tickWait, tickPeriodic, tickWatchdog, tickIn}
-use Rattle.head_links.specs.declared.Change.{Change}
 use Rattle.head_links.specs.Pass.{passedOf}
 use Rattle.head_links.specs.declared.Link.{Link}
 use Rattle.head_links.specs.declared.Sent.{Sent}
@@ -33,13 +32,13 @@ use Rattle.head_links.specs.declared.State.the-variants.{Idle, Waiting, Registe
 use Rattle.head_links.specs.declared.Stepped.{Stepped}
 use Rattle.head_survey.specs.declared.Facts.{Facts}
 use Rattle.head_table.specs.Events.{portOf, reactOf}
-use Rattle.head_table.specs.declared.Event.{Event}
 use Rattle.head_requests.specs.Client.{fitsLengths, fitsParty}
 use Rattle.head_judging.specs.declared.Call.{Call}
 use Rattle.head_laws.specs.Calls.{tests, planned}
 use Rattle.head_laws.specs.Heard.{ByMessage, Heeds, heard-message}
 use Rattle.head_laws.specs.Links.{individual-fits, address-fits}
 use Rattle.head_laws.specs.Sound.{party-parts}
+use Rattle.head_laws.specs.Stated.{RequestTyped}
 
 -- a body for an address, both in range
 abbrev pub SentFits : Sent → Type 0
@@ -95,22 +94,6 @@ EventFits Event.Clear = Unit {0}
 EventFits Event.Tick = Unit {0}
 EventFits (Event.Leap k) = Unit {0}
 EventFits (Event.At number c) = ChangeFits c
-
--- what the types of the code's numbers see to
-abbrev pub RequestTyped : Call → Type 0
-RequestTyped (Call.Open start length sync window) = start .0 < 2 ^ 32
-RequestTyped (Call.Admit a pending sync) = pending < 2 ^ 8
-RequestTyped (Call.Reject a pending sync) = pending < 2 ^ 8
-RequestTyped (Call.Reregister link sync) = Unit {0}
-RequestTyped (Call.Deregister link) = Unit {0}
-RequestTyped (Call.Gate link asked) =
-    (asked .first .start .0 < 2 ^ 32)
-    × (asked .second .start .0 < 2 ^ 32)
-    × (asked .third .start .0 < 2 ^ 32)
-    × (asked .fourth .start .0 < 2 ^ 32)
-RequestTyped (Call.Hear link m) = Unit {0}
-RequestTyped Call.Tick = Unit {0}
-RequestTyped (Call.Advance n) = Unit {0}
 
 -- the grants asked for
 asked-typed : (link : ℕ) (asked : Asked) → RequestTyped (Call.Gate link asked) → GrantsTyped (listed (grantsOf asked))

@@ -15,7 +15,6 @@ use Rattle.frame.specs.declared.Address.{Address}
 use Rattle.frame.specs.declared.Reply.the-variants.{Output, Unsound}
 use Rattle.head_state.specs.declared.Head.{Head}
 use Rattle.lent.specs.Folds.{places}
-use Rattle.head_links.specs.Link.{idle}
 use Rattle.head_links.specs.declared.Change.{Change}
 use Rattle.head_links.specs.declared.Link.{Link}
 use Rattle.head_links.specs.declared.Stepped.{Stepped}
@@ -28,8 +27,9 @@ use Rattle.head_judging.specs.declared.Call.{Call}
 use Rattle.head_calls.specs.Serve.{senderOf, doneOf, planOf, serveOf}
 use Rattle.head_laws.specs.Calls.{tests, planned, known, Outcome, unsound, short, refuses, accepts, outcome}
 use Rattle.head_laws.specs.Events.{nothing-keeps}
-use Rattle.head_laws.specs.Frames.{linkFrames, framesOf, nothing-frames, frames-apart}
-use Rattle.head_laws.specs.Handed.{planned-apart, refused-frames, callFrames}
+use Rattle.head_laws.specs.Frames.{nothing-frames, frames-apart}
+use Rattle.head_laws.specs.Stated.{linkFrames, framesOf, callFrames, NotTick}
+use Rattle.head_laws.specs.Handed.{planned-apart, refused-frames}
 use Rattle.head_laws.specs.Heard.{Heeds, heard-message}
 use Rattle.head_laws.specs.Numbered.{changed-one}
 use Rattle.head_laws.specs.Places.{elsewhere}
@@ -45,17 +45,6 @@ about (Call.Gate link asked) xs = link
 about (Call.Hear link m) xs = link
 about Call.Tick xs = 0
 about (Call.Advance n) xs = 0
-
-abbrev pub NotTick : Call → Type 0
-NotTick (Call.Open start length sync window) = Unit {0}
-NotTick (Call.Admit a pending sync) = Unit {0}
-NotTick (Call.Reject a pending sync) = Unit {0}
-NotTick (Call.Reregister link sync) = Unit {0}
-NotTick (Call.Deregister link) = Unit {0}
-NotTick (Call.Gate link asked) = Unit {0}
-NotTick (Call.Hear link m) = Unit {0}
-NotTick Call.Tick = ⊥
-NotTick (Call.Advance n) = ⊥
 
 -- an event that changes at most the link of that number
 abbrev Concerns : Event → ℕ → Type 0

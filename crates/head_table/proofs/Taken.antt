@@ -4,7 +4,8 @@ use Prim.Native.Nat.{ℕ, _≤_}
 use mathlib.Core.Path.{_≡_, refl, sym, _∙_}
 use mathlib.Core.List.{List}
 use lib.ListN.{length}
-use Rattle.lent.specs.Folds.{each, places, places-still, each-still}
+use Rattle.lent.specs.Folds.{each, places}
+use Rattle.lent.specs.Laws.{places-still, each-still}
 use Rattle.lent.proofs.Folds.{upTo, up-all, up-still, foldTo, fold-all, fold-still}
 use Rattle.head_links.specs.declared.Link.{Link}
 use Rattle.head_table.specs.Events.{reacted, turnsOf}

@@ -1,28 +1,15 @@
--- R193 to R195, advance, over any end: ticks one after the other, as many as are asked for, none behind one that hands
--- something out and none that would be refused. And the law of the jump: ticks that surely hand out nothing are passed in one step.
+-- Lemmas: the law of the jump: ticks that surely hand out nothing are passed in one step.
 -- Assumes nothing.
-use Prim.Native.Nat.{ℕ, zero, suc, _+_, _-_, _≤_, _<_}
+use Prim.Native.Nat.{ℕ, suc, _+_, _-_, _≤_, _<_}
 use mathlib.Core.Path.{_≡_, refl, _∙_}
-use mathlib.Core.Bool.{Bool, true, false, cond}
+use mathlib.Core.Bool.{Bool, true, false}
 use mathlib.Core.Logic.{_≢_}
 use native.Mathlib.Omega.{arith}
 use borrow.Author.Tests.{ne-eqb}
-use lib.Dec.{eqb}
+use Rattle.laws.specs.Ticks.{ticks}
 
 -- an answer says what its tick left; `again` is the tick after it, `out` the reply to the call with the number of ticks made
 module _ {A R : Type 0} (again : A → A) (done silent : A → Bool) (out : A → ℕ → R) where
-  -- at most k ticks more, where m are made and r is the answer of the last; before the first, r hands out nothing and m is 0
-  unfoldable pub ticks : ℕ → A → ℕ → R
-  ticks zero r m = out r m
-  ticks (suc k) r m =
-      let x = again r in
-      let more = ticks k x (m + 1) in
-      -- the last one made handed out a frame or a notice
-      cond (silent r)
-      -- the next would be refused; if that is the first, its refusal is the answer
-      (cond (done x) more (cond (eqb m 0) (out x 0) (out r m)))
-      (out r m)
-
   -- `leap k` passes k ticks, and `quiet` is a number of ticks that surely hand out nothing
   pub record Jumps (leap : ℕ → A → A) (quiet : A → ℕ) : Type 0 where
     pub none : (r : A) → leap 0 r ≡ r
@@ -31,33 +18,33 @@ module _ {A R : Type 0} (again : A → A) (done silent : A → Bool) (out : A �
     pub falls : (r : A) → 1 ≤ quiet r → quiet r ≤ suc (quiet (leap 1 r))
 
   -- a single tick that is made
-  pub ticks-next : (k m : ℕ) (r x : A) → silent r ≡ true → again r ≡ x → done x ≡ true → ticks (suc k) r m ≡ ticks k x (m + 1)
+  pub ticks-next : (k m : ℕ) (r x : A) → silent r ≡ true → again r ≡ x → done x ≡ true → ticks again done silent out (suc k) r m ≡ ticks again done silent out k x (m + 1)
   unfolding ticks
   ticks-next k m r x s e d = rw (s, e, d)
 
   -- one that would be refused: the first, and a later one
-  pub ticks-first : (k : ℕ) (r x : A) → silent r ≡ true → again r ≡ x → done x ≡ false → ticks (suc k) r 0 ≡ out x 0
+  pub ticks-first : (k : ℕ) (r x : A) → silent r ≡ true → again r ≡ x → done x ≡ false → ticks again done silent out (suc k) r 0 ≡ out x 0
   unfolding ticks
   ticks-first k r x s e d = rw (s, e, d)
 
-  pub ticks-refused : (k m : ℕ) (r x : A) → silent r ≡ true → again r ≡ x → done x ≡ false → m ≢ 0 → ticks (suc k) r m ≡ out r m
+  pub ticks-refused : (k m : ℕ) (r x : A) → silent r ≡ true → again r ≡ x → done x ≡ false → m ≢ 0 → ticks again done silent out (suc k) r m ≡ out r m
   unfolding ticks
   ticks-refused k m r x s e d n = rw (s, e, d, ne-eqb m 0 n)
 
   -- what was handed out stops it
-  pub ticks-told : (k m : ℕ) (r : A) → silent r ≡ false → ticks k r m ≡ out r m
+  pub ticks-told : (k m : ℕ) (r : A) → silent r ≡ false → ticks again done silent out k r m ≡ out r m
   unfolding ticks
   ticks-told zero m r s = refl
   ticks-told (suc k) m r s = rw s
 
-  pub ticks-end : (k m : ℕ) (r : A) → k ≡ 0 → ticks k r m ≡ out r m
+  pub ticks-end : (k m : ℕ) (r : A) → k ≡ 0 → ticks again done silent out k r m ≡ out r m
   unfolding ticks
   ticks-end k m r e = rw e
 
   module _ (leap : ℕ → A → A) (quiet : A → ℕ) (j : Jumps leap quiet) where
     -- the law: k quiet ticks are made one by one as they are passed in a step
     pub jump : (k : ℕ) (i m : ℕ) (r : A) → silent r ≡ true → k ≤ quiet r
-        → (ticks (k + i) r m ≡ ticks i (leap k r) (m + k)) × (silent (leap k r) ≡ true)
+        → (ticks again done silent out (k + i) r m ≡ ticks again done silent out i (leap k r) (m + k)) × (silent (leap k r) ≡ true)
     jump zero i m r s h =
         let a : m + 0 ≡ m = omega arith in
         let b : 0 + i ≡ i = omega arith in
@@ -84,17 +71,17 @@ module _ {A R : Type 0} (again : A → A) (done silent : A → Bool) (out : A �
       parts : n - m ≡ k + suc (n - (m + k + 1))
       parts = omega arith
 
-      pub turn-next : done x ≡ true → ticks (n - m) r m ≡ ticks (n - (m + k + 1)) x (m + k + 1)
+      pub turn-next : done x ≡ true → ticks again done silent out (n - m) r m ≡ ticks again done silent out (n - (m + k + 1)) x (m + k + 1)
       turn-next d =
           let p = jump k (suc (n - (m + k + 1))) m r s h in
           rw parts (p .0 ∙ ticks-next (n - (m + k + 1)) (m + k) (leap k r) x (p .1) e d)
 
-      pub turn-first : done x ≡ false → m + k ≡ 0 → ticks (n - m) r m ≡ out x 0
+      pub turn-first : done x ≡ false → m + k ≡ 0 → ticks again done silent out (n - m) r m ≡ out x 0
       turn-first d z =
           let p = jump k (suc (n - (m + k + 1))) m r s h in
           rw parts (p .0 ∙ rw z (ticks-first (n - (0 + 1)) (leap k r) x (p .1) e d))
 
-      pub turn-refused : done x ≡ false → m + k ≢ 0 → ticks (n - m) r m ≡ out (leap k r) (m + k)
+      pub turn-refused : done x ≡ false → m + k ≢ 0 → ticks again done silent out (n - m) r m ≡ out (leap k r) (m + k)
       turn-refused d z =
           let p = jump k (suc (n - (m + k + 1))) m r s h in
           rw parts (p .0 ∙ ticks-refused (n - (m + k + 1)) (m + k) (leap k r) x (p .1) e d z)

@@ -24,7 +24,8 @@ use Rattle.box_calls.specs.Hear.{isFor, hearOf}
 use Rattle.box_calls.specs.declared.Answer.{Answer}
 use Rattle.box_calls.specs.declared.FloorBox.{FloorBox}
 use Rattle.box_laws.specs.Calls.{hear, tick}
-use Rattle.pair_wire.specs.Carried.{messageIn, carries-valid}
+use Rattle.pair_wire.specs.Carried.{carries-valid}
+use Rattle.pair_wire.specs.Message.{messageIn}
 use Rattle.pair_box.specs.End.{stateOf, BoxEnd}
 use Rattle.pair_box.proofs.Accepted.{tick-accepted, hear-accepted}
 use Rattle.pair_box.proofs.Calls.{next-registration}

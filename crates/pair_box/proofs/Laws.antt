@@ -15,7 +15,8 @@ use Rattle.box_calls.specs.declared.FloorBox.{FloorBox}
 use Rattle.box_laws.specs.Calls as calls
 use Rattle.box_laws.specs.Calls.{outcome}
 use Rattle.box_laws.specs.Steady.{tick-ok}
-use Rattle.pair_wire.specs.Carried.{messageIn, carries-valid}
+use Rattle.pair_wire.specs.Carried.{carries-valid}
+use Rattle.pair_wire.specs.Message.{messageIn}
 use Rattle.pair_wire.specs.Restarts.{callsBox, tested, downRestarts, upRestarts}
 use Rattle.pair_demand.specs.Run.{HasRegistered}
 use Rattle.pair_demand.specs.Laws.{Step, Laws}

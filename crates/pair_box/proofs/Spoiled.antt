@@ -25,7 +25,8 @@ use Rattle.box_calls.specs.declared.FloorBox.{FloorBox}
 use Rattle.box_laws.specs.Calls.{hear}
 use Rattle.box_laws.specs.Sound.{renewed}
 use Rattle.box_laws.specs.Watchdog.{discovery-keeps}
-use Rattle.pair_wire.specs.Carried.{messageIn, carries-valid}
+use Rattle.pair_wire.specs.Carried.{carries-valid}
+use Rattle.pair_wire.specs.Message.{messageIn}
 use Rattle.pair_box.specs.End.{stateOf}
 use Rattle.pair_box.specs.Spoiled.{restarted, spoiledHear, SpoiledEnd}
 use Rattle.pair_box.proofs.Accepted.{hear-accepted}

@@ -15,7 +15,7 @@ use Rattle.box_calls.specs.Box.{freshOf, registerOf, deregisterOf, tickOf}
 use Rattle.box_calls.specs.Hear.{hearOf}
 use Rattle.box_calls.specs.declared.Answer as box
 use Rattle.box_calls.specs.declared.FloorBox.{FloorBox}
-use Rattle.pair_wire.specs.Carried.{messageIn}
+use Rattle.pair_wire.specs.Message.{messageIn}
 use Rattle.pair_demand.specs.Run.{Answer, End}
 
 -- what the client asks

@@ -25,7 +25,8 @@ use Rattle.box_calls.specs.declared.Answer.{Answer}
 use Rattle.box_calls.specs.declared.FloorBox.{FloorBox}
 use Rattle.box_laws.specs.Calls.{hear, step}
 use Rattle.box_laws.specs.Frames.{call-frames}
-use Rattle.pair_wire.specs.Carried.{messageIn, carries-valid}
+use Rattle.pair_wire.specs.Carried.{carries-valid}
+use Rattle.pair_wire.specs.Message.{messageIn}
 use Rattle.pair_box.specs.End.{framesIn, BoxEnd}
 use Rattle.pair_box.proofs.Accepted.{hear-accepted}
 use Rattle.pair_box.proofs.Calls.{next-registration}

@@ -11,7 +11,7 @@ use Rattle.box_registration.specs.Registration.{isRegistered}
 use Rattle.box_calls.specs.Hear.{isDiscovery, hearOf}
 use Rattle.box_calls.specs.declared.Answer.{Answer}
 use Rattle.box_calls.specs.declared.FloorBox.{FloorBox}
-use Rattle.pair_wire.specs.Carried.{messageIn}
+use Rattle.pair_wire.specs.Message.{messageIn}
 use Rattle.pair_box.specs.End.{told, stateOf, heardIn, EndThat, BoxEnd}
 
 abbrev pub Alike : (FloorBox → Message → ℕ → Answer) → Type 0

@@ -34,7 +34,8 @@ use Rattle.box_calls.specs.declared.Answer.{Answer}
 use Rattle.box_calls.specs.declared.FloorBox.{FloorBox}
 use Rattle.box_laws.specs.Calls.{Call, hear, tick, answer, step, drift}
 use Rattle.box_laws.specs.Sound.{sound-test}
-use Rattle.pair_wire.specs.Carried.{messageIn, carries-valid}
+use Rattle.pair_wire.specs.Carried.{carries-valid}
+use Rattle.pair_wire.specs.Message.{messageIn}
 use Rattle.pair_box.specs.End.{register, BoxEnd}
 use Rattle.pair_box.proofs.Accepted.{tick-accepted, hear-accepted}
 use Rattle.pair_box.proofs.Exact.{AskingFor, tick-done}

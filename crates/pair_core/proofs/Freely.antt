@@ -3,7 +3,8 @@
 use Prim.Native.Nat.{ℕ}
 use Rattle.clock.specs.Numbers.{watchdog, wait}
 use Rattle.pair_wire.specs.Restarts.{restartsHead, callsBox, downRestarts, upRestarts}
-use Rattle.pair_wire.specs.Stamped.{restamped, restamped-tested}
+use Rattle.pair_wire.specs.Message.{restamped}
+use Rattle.pair_wire.specs.Stamped.{restamped-tested}
 use Rattle.pair_demand.specs.Run.{Holds, HasRegistered}
 use Rattle.pair_demand.specs.Freely.{Free, Freely}
 use Rattle.pair_demand.proofs.Face.{gauge}

@@ -29,7 +29,7 @@ use Rattle.head_judging.specs.declared.Call.{Call}
 use Rattle.head_laws.specs.Calls.{known}
 use Rattle.head_laws.specs.Does.{from}
 use Rattle.head_laws.specs.Numbered.{held-has}
-use Rattle.pair_wire.specs.Carried.{messageIn}
+use Rattle.pair_wire.specs.Message.{messageIn}
 use Rattle.pair_demand.specs.Run.{Answer, Aged, stamp}
 use Rattle.pair_head.specs.End.{HeadState, linkAt, asked, heard}
 use Rattle.pair_head.proofs.Asked.{admit-waits, deregister-none}

@@ -7,7 +7,8 @@ use mathlib.Core.Option.{some}
 use Rattle.frame.specs.Layout.{encode}
 use Rattle.frame.specs.Range.{Valid}
 use Rattle.frame.specs.declared.Message.{Message}
-use Rattle.pair_wire.specs.Carried.{messageIn, carries-back}
+use Rattle.pair_wire.specs.Carried.{carries-back}
+use Rattle.pair_wire.specs.Message.{messageIn}
 use Rattle.pair_demand.specs.Run.{Aged, stamp, olden}
 
 module _ {F : Type 0} where

@@ -10,7 +10,7 @@ use Rattle.frame.specs.declared.Address.{Address}
 use Rattle.frame.specs.declared.Message.{Message}
 use Rattle.head_judging.specs.declared.Call.{Call}
 use Rattle.head_laws.specs.Sound.{call-length}
-use Rattle.pair_wire.specs.Carried.{messageIn}
+use Rattle.pair_wire.specs.Message.{messageIn}
 use Rattle.pair_wire.specs.Restarts.{downRestarts, upRestarts}
 use Rattle.pair_demand.specs.Run.{Holds, HasRegistered, Event, head-call, head-hears, box-call, box-hears, both-tick, after, Allowed, play, Lawful, Span, first, last}
 use Rattle.pair_demand.proofs.Falls.{Oks, ok-step}

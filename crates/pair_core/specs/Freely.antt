@@ -4,7 +4,7 @@
 use Prim.Native.Nat.{ℕ}
 use Rattle.clock.specs.Numbers.{watchdog, wait}
 use Rattle.frame.specs.declared.Address.{Address}
-use Rattle.pair_wire.specs.Stamped.{restamped}
+use Rattle.pair_wire.specs.Message.{restamped}
 use Rattle.pair_demand.specs.Run.{NoHalfOpen}
 use Rattle.pair_demand.specs.Freely.{Freely}
 use Rattle.pair_box.specs.End.{BoxEnd}

@@ -6,7 +6,8 @@ use Prim.Native.Nat.{ℕ, zero, suc, _+_}
 use native.Mathlib.Omega.{arith}
 use lib.ListN.{replicate}
 use Rattle.pair_demand.specs.Run.{Answer, End, Holds, HasRegistered, Aged, stamp, olden, Moment, Event, both-tick, after, Allowed, play, Lawful, tally, ticks, Through, Start, Span, last, length-of, All-through, NoHalfOpen}
-use Rattle.pair_demand.specs.Advance.{Advance, untold, Alike, Singly, older, later, Step, event, both-advance, step, Allows, Runs, count, Seen, singles, events-of, Reads, Program, first-seen, last-seen, ticks-made, Always, NoHalfOpenSeen}
+use Rattle.pair_demand.specs.Advance.{Advance, older, later, Step, event, both-advance, step, Allows, Runs, count, Seen, singles, events-of, Reads, Program, first-seen, last-seen, ticks-made, Always, NoHalfOpenSeen}
+use Rattle.pair_demand.specs.Singly.{untold, Alike, Singly}
 
 -- ages
 module _ {F : Type 0} where

@@ -7,7 +7,8 @@ use Prim.Native.Nat.{ℕ, _+_, _≤_}
 use native.Mathlib.Omega.{arith}
 use Rattle.pair_demand.specs.Run.{Answer, End}
 use Rattle.pair_demand.specs.Laws.{All, Gauge, Step, Laws}
-use Rattle.pair_demand.specs.Face.{Face, through, As, Untouched, Does, does, spares, begins, Hears, hears, misses, Faithful, Tells}
+use Rattle.pair_demand.specs.Face.{Face, through}
+use Rattle.pair_demand.specs.Faithful.{As, Untouched, Does, does, spares, begins, Hears, hears, misses, Faithful, Tells}
 
 -- what changes nothing at all
 pub unchanged : {In Out : Type 0} {E : End In Out} (F : Face E) (Good : F .State → Type 0) {s : F .State} {a : Answer (F .State) Out}

@@ -5,7 +5,7 @@ use mathlib.Core.Bool.{Bool}
 use Prim.Native.Nat.{ℕ}
 use Rattle.pair_demand.specs.Run.{End}
 use Rattle.pair_demand.specs.Laws.{Gauge, Laws}
-use Rattle.pair_demand.specs.Face.{Does, does, begins, Faithful, hears}
+use Rattle.pair_demand.specs.Faithful.{Does, does, begins, Faithful, hears}
 use Rattle.pair_demand.specs.Freely.{FreeCall, given, again, FreeFair, freeCall, Free, Freely}
 use Rattle.pair_demand.proofs.Face.{gauge, laws-through}
 

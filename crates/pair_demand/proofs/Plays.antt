@@ -6,7 +6,8 @@ use mathlib.Core.List.{List, [], _∷_}
 use Prim.Native.Nat.{ℕ}
 use native.Mathlib.Omega.{arith}
 use Rattle.pair_demand.specs.Run.{Answer, End, Holds, HasRegistered, Moment, Event, head-call, head-hears, box-call, box-hears, both-tick, after, Allowed, play, Lawful, tally, ticks, Through, Span, first, last, length-of, All-through, BoxDrops, HeadDrops, BoxWaits, HeadWaits}
-use Rattle.pair_demand.specs.Face.{Face, through, Tells}
+use Rattle.pair_demand.specs.Face.{Face, through}
+use Rattle.pair_demand.specs.Faithful.{Tells}
 
 module _ {In Out : Type 0} {E : End In Out} (F : Face E) (Good : F .State → Type 0) where
   -- it comes to the same

@@ -4,7 +4,7 @@ use mathlib.Core.Bool.{Bool, true, false}
 use mathlib.Core.List.{List, [], _∷_, _++_, map, List·Memᴰ, List·Memᴰ·head, List·Memᴰ·tail}
 use Prim.Native.Nat.{ℕ}
 use native.Mathlib.Omega.{arith}
-use Rattle.pair_demand.specs.Face.{Same}
+use Rattle.pair_demand.specs.Faithful.{Same}
 use Rattle.pair_demand.specs.Laws.{All}
 
 -- A property of every element of a list.

@@ -3,10 +3,9 @@
 -- Assumes nothing.
 use mathlib.Core.Path.{_≡_}
 use mathlib.Core.List.{List, [], _∷_, _++_, map}
-use Prim.Native.Nat.{ℕ, zero, suc, _+_, _≤_, _<_}
+use Prim.Native.Nat.{ℕ, _+_, _≤_, _<_}
 use lib.ListN.{replicate}
 use Rattle.pair_demand.specs.Run.{Answer, End, Holds, HasRegistered, Aged, stamp, Moment, Event, both-tick, after, Allowed, play, Lawful, tally, ticks, Start}
-use Rattle.pair_demand.specs.Face.{Same}
 
 -- An end's advance: its answer, how many ticks it says it made, and what each of these is lent if it is made by itself.
 pub record Advance {In Out : Type 0} (E : End In Out) : Type 1 where
@@ -14,24 +13,6 @@ pub record Advance {In Out : Type 0} (E : End In Out) : Type 1 where
   pub advance : E .State → Asked → Answer (E .State) Out
   pub made : E .State → Asked → ℕ
   pub lent : Asked → E .Lent
-
-module _ {In Out : Type 0} (E : End In Out) where
-  -- before the first tick nothing is handed out
-  abbrev pub untold : E .State → Answer (E .State) Out
-  untold s = record { reply = 0; next = s; sent = [] }
-
-  -- a state that tells of its links what another does
-  pub record Alike (s t : E .State) : Type 0 where
-    pub held : (p : E .Place) → Same (E .Held s p) (E .Held t p)
-    pub registered : (p : E .Place) → Same (E .Registered s p) (E .Registered t p)
-    pub waiting : (p : E .Place) → Same (E .Waiting s p) (E .Waiting t p)
-
-  -- What k single ticks are that follow an answer a, of which the last is answered b: each is done and lent the same, and is made of a state
-  -- that is like the first; the ones before the last hand out nothing.
-  abbrev pub Singly : (E .State → Type 0) → E .Lent → ℕ → Answer (E .State) Out → Answer (E .State) Out → Type 0
-  Singly Like l zero a b = a ≡ b
-  Singly Like l (suc k) a b =
-      Like (a .next) × (a .sent ≡ []) × (E .tick (a .next) l .reply ≡ 0) × Singly Like l k (E .tick (a .next) l) b
 
 -- the same frame, k ticks later
 abbrev pub older : {F : Type 0} → ℕ → Aged F → Aged F

@@ -20,7 +20,7 @@ use Rattle.head_links.specs.declared.Link.{Link}
 use Rattle.head_survey.specs.Facts.{isFew, linkFrom}
 use Rattle.head_calls.specs.Fresh.{Freshly, freshOf}
 use Rattle.head_laws.specs.Fresh.{fresh-unsound, fresh-range, fresh-done}
-use Rattle.head_laws.specs.Runs.{Run, fresh}
+use Rattle.head_laws.specs.Stated.{Run, fresh}
 use Rattle.pair_head.specs.End.{HeadState, linkAt, Fresh}
 
 idle-placed : (n k : ℕ) (xs : List Link) → linkFrom n k (places (λ j l. idle) k xs) ≡ idle

@@ -23,13 +23,11 @@ use Rattle.head_judging.specs.declared.Call.{Call}
 use Rattle.head_calls.specs.Serve.{senderOf, doneOf, planOf, serveOf}
 use Rattle.head_laws.specs.Calls.{Outcome, unsound, short, refuses, accepts, outcome}
 use Rattle.head_laws.specs.Events.{table-parts, found-sound}
-use Rattle.head_laws.specs.Frames.{sentBy, linkFrames}
 use Rattle.head_laws.specs.Links.{sound-in, waiting-parts, registered-parts}
 use Rattle.head_laws.specs.Refusals.{reply-is}
-use Rattle.head_laws.specs.Runs.{Run, calls, run-sound, run-count}
-use Rattle.head_laws.specs.Sends.{RequestTyped}
-use Rattle.head_laws.specs.Touches.{NotTick}
-use Rattle.pair_wire.specs.Carried.{messageIn}
+use Rattle.head_laws.specs.Runs.{run-sound, run-count}
+use Rattle.head_laws.specs.Stated.{Run, calls, sentBy, linkFrames, RequestTyped, NotTick}
+use Rattle.pair_wire.specs.Message.{messageIn}
 use Rattle.pair_wire.specs.Restarts.{restartsHead, tested, callsBox, downRestarts, upRestarts}
 use Rattle.pair_demand.specs.Run.{Answer, Holds}
 use Rattle.pair_demand.specs.Laws.{Gauge, Step, Laws}

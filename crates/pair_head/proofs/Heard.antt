@@ -20,7 +20,7 @@ use Rattle.frame.specs.declared.Grants.the-variants.{None}
 use Rattle.frame.specs.declared.Message.{Message}
 use Rattle.frame.specs.declared.RegisterAckFlag.{RegisterAckFlag}
 use Rattle.frame.specs.declared.Reply.the-variants.{Done}
-use Rattle.frame_range.specs.Fits.{of-valid}
+use Rattle.frame_range.specs.Laws.{of-valid}
 use Rattle.head_state.specs.declared.Head.{Head}
 use Rattle.head_links.specs.Link.{isHeld, isRegistered}
 use Rattle.head_links.specs.declared.Link.{Link}
@@ -37,7 +37,8 @@ use Rattle.head_laws.specs.Messages.{report-heard, ack-heard}
 use Rattle.head_laws.specs.Runs.{run-sound, run-count}
 use Rattle.head_laws.specs.Sound.{facts-link}
 use Rattle.head_laws.specs.Table.{or-second}
-use Rattle.pair_wire.specs.Carried.{messageIn, carries-valid}
+use Rattle.pair_wire.specs.Carried.{carries-valid}
+use Rattle.pair_wire.specs.Message.{messageIn}
 use Rattle.pair_demand.specs.Run.{Answer}
 use Rattle.pair_head.specs.End.{HeadState, linkAt, heard, HeldLink, RegisteredLink}
 use Rattle.pair_head.proofs.Exact.{RegisteredFor, WaitingFor}

@@ -11,10 +11,9 @@ use Rattle.frame.specs.declared.Address.{Address}
 use Rattle.frame.specs.declared.Message.{Message}
 use Rattle.head_judging.specs.declared.Call.{Call}
 use Rattle.head_calls.specs.Serve.{serveOf}
-use Rattle.head_laws.specs.Frames.{AllValid}
-use Rattle.head_laws.specs.Handed.{callFrames, call-valid, call-frames, call-octets}
-use Rattle.head_laws.specs.Pasted.{encoded, encode-length}
-use Rattle.head_laws.specs.Sends.{RequestTyped}
+use Rattle.head_laws.specs.Handed.{call-valid, call-frames, call-octets}
+use Rattle.head_laws.specs.Pasted.{encode-length}
+use Rattle.head_laws.specs.Stated.{encoded, AllValid, callFrames, RequestTyped}
 use Rattle.pair_wire.specs.Carried.{carries-back}
 use Rattle.pair_wire.specs.Restarts.{tested, callsBox, downRestarts}
 use Rattle.pair_demand.specs.Laws.{All}

@@ -23,7 +23,7 @@ use Rattle.head_laws.specs.Calls.{tests, planned, known}
 use Rattle.head_laws.specs.Heard.{heard-message}
 use Rattle.head_laws.specs.Numbered.{lowest-idle}
 use Rattle.head_laws.specs.Sound.{facts-link, facts-idle}
-use Rattle.head_laws.specs.Touches.{NotTick}
+use Rattle.head_laws.specs.Stated.{NotTick}
 use Rattle.pair_head.specs.End.{handedIn}
 use Rattle.pair_head.proofs.Links.{Quiet}
 use Rattle.pair_head.proofs.Messages.{Kept, message-behaves}

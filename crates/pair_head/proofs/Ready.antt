@@ -16,7 +16,8 @@ use Rattle.head_judging.specs.declared.Call.{Call}
 use Rattle.head_calls.specs.Serve.{serveOf}
 use Rattle.head_laws.specs.Calls.{tests, known, allTests}
 use Rattle.head_laws.specs.Refusals.{call-reply}
-use Rattle.head_laws.specs.Runs.{Run, calls, run-sound}
+use Rattle.head_laws.specs.Runs.{run-sound}
+use Rattle.head_laws.specs.Stated.{Run, calls}
 use Rattle.head_laws.specs.Sound.{call-length}
 use Rattle.pair_demand.specs.Run.{Answer}
 use Rattle.pair_head.specs.End.{HeadState, asked}

@@ -22,7 +22,7 @@ use Rattle.head_survey.specs.Facts.{allSound, linkFrom}
 use Rattle.head_table.specs.Events.{portOf, reactOf, reacted}
 use Rattle.head_table.specs.declared.Event.{Event}
 use Rattle.head_table.specs.declared.Sender.{Sender}
-use Rattle.head_laws.specs.Frames.{sentBy, linkFrames}
+use Rattle.head_laws.specs.Stated.{sentBy, linkFrames}
 use Rattle.head_laws.specs.Numbered.{Has, held-has}
 use Rattle.head_laws.specs.Table.{sound-first}
 use Rattle.pair_wire.specs.Restarts.{restartsBox, callsBox}

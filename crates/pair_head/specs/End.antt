@@ -18,9 +18,8 @@ use Rattle.head_survey.specs.Facts.{linkFrom}
 use Rattle.head_judging.specs.declared.Call.{Call}
 use Rattle.head_calls.specs.Fresh.{freshOf}
 use Rattle.head_calls.specs.Serve.{Served, serveOf}
-use Rattle.head_laws.specs.Sends.{RequestTyped}
-use Rattle.head_laws.specs.Touches.{NotTick}
-use Rattle.pair_wire.specs.Carried.{messageIn}
+use Rattle.head_laws.specs.Stated.{RequestTyped, NotTick}
+use Rattle.pair_wire.specs.Message.{messageIn}
 use Rattle.pair_demand.specs.Run.{Answer, End}
 
 -- a head and its table

@@ -1,10 +1,10 @@
--- Frames on the fibre: the message that octets carry to the end that hears them, if the reader takes them.
+-- Lemmas: what carries a message.
 -- Assumes nothing.
 use Prim.Native.Nat.{ℕ, zero, suc, _/_, _%_, _-_}
 use mathlib.Core.Path.{_≡_, refl}
 use mathlib.Core.Bool.{Bool, true, false, cond, _&&_, and-eq-true-iff}
 use mathlib.Core.List.{List, [], _∷_, _++_}
-use mathlib.Core.Option.{Option, none, some}
+use mathlib.Core.Option.{none, some}
 use native.Mathlib.Omega.{arith}
 use borrow.Author.Tests.{eqb-true, ltb-true, lt-ltb}
 use lib.Dec.{eqb, ltb}
@@ -17,19 +17,11 @@ use Rattle.frame.specs.declared.Body.{Body}
 use Rattle.frame.specs.declared.Body.the-variants.{Gate, Discovery, Report, RegisterReq, Register, RegisterAck}
 use Rattle.frame.specs.declared.Grant.{Grant}
 use Rattle.frame.specs.declared.Message.{Message}
-use Rattle.frame.specs.declared.Reply.{Reply}
 use Rattle.frame.specs.declared.Reply.the-variants.{Done, Size, Kind, Opcode, Range, Direction, Link, State, Party, Held, Full, Output, Unsound, Window}
 use Rattle.frame_reader.specs.Decode.{readControl, readOf}
 use Rattle.frame_reader.proofs.Forth.{read-encode}
 use Rattle.frame_reader.proofs.Back.{carried}
-
-abbrev pub areOctets : List ℕ → Bool
-areOctets [] = true
-areOctets (x ∷ xs) = ltb x 256 && areOctets xs
-
--- what the reader refuses, and what isn't octets, carries nothing
-unfoldable pub messageIn : List ℕ → Option Message
-messageIn os = cond (areOctets os && eqb (numberOf (readOf os .reply)) 0) (some (readOf os .message)) none
+use Rattle.pair_wire.specs.Message.{areOctets, messageIn}
 
 pub octets-join : (l r : List ℕ) → areOctets l ≡ true → areOctets r ≡ true → areOctets (l ++ r) ≡ true
 octets-join [] r h k = k

@@ -11,7 +11,7 @@ use Rattle.frame.specs.declared.Body.the-variants.{Gate, Discovery, Report, Reg
 use Rattle.frame.specs.declared.Message.{Message}
 use Rattle.frame.specs.declared.RegisterAckFlag.{RegisterAckFlag}
 use Rattle.frame.specs.declared.RegisterFlag.{RegisterFlag}
-use Rattle.pair_wire.specs.Carried.{messageIn}
+use Rattle.pair_wire.specs.Message.{messageIn}
 
 -- REGISTER acted on by ack or reregister
 abbrev pub registers : RegisterFlag → Bool

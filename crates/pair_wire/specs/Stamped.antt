@@ -1,4 +1,4 @@
--- A frame that leaves with another timestamp than it was handed out with: it carries the same message but for that.
+-- Lemmas: a frame that leaves with another timestamp than it was handed out with carries the same message but for that.
 -- Assumes nothing.
 use Prim.Native.Nat.{ℕ, zero, suc, _+_, _≤_, _<_}
 use mathlib.Core.Path.{_≡_, refl, sym, ap, _∙_}
@@ -20,12 +20,9 @@ use Rattle.frame.specs.declared.Reading.{Reading}
 use Rattle.frame.specs.declared.Reply.the-variants.{Done, Size, Kind, Opcode, Range}
 use Rattle.laws.specs.Cases.{either, cut}
 use Rattle.frame_reader.specs.Decode.{grantAt, gateAt, registerReqAt, registerAt, registerAckAt, bodyAt, messageAt, readControl, readOf}
-use Rattle.pair_wire.specs.Carried.{areOctets, messageIn, octets-join, octets-bytes}
+use Rattle.pair_wire.specs.Carried.{octets-join, octets-bytes}
+use Rattle.pair_wire.specs.Message.{areOctets, messageIn, stamped, restamped}
 use Rattle.pair_wire.specs.Restarts.{tested}
-
--- octets 16 to 19 of a frame are its timestamp; whoever sends it may put another there
-unfoldable pub stamped : ℕ → List ℕ → List ℕ
-stamped n os = take 16 os ++ bytes 4 n ++ drop 20 os
 
 -- octets
 octets-take : (n : ℕ) (l : List ℕ) → areOctets l ≡ true → areOctets (take n l) ≡ true
@@ -189,10 +186,6 @@ stamped-tested t b n os h =
     carried-alike t b (stamped n os) os (stamped-octets n os h) h
     (read-alike (stamped n os) os (stamped-length n os k) (stamped-early n os k) (stamped-late n os k)))
     (cut (length os) 20)
-
--- what isn't octets has no timestamp
-unfoldable pub restamped : ℕ → List ℕ → List ℕ
-restamped n os = cond (areOctets os) (stamped n os) os
 
 pub restamped-tested : (t : Message → Bool) → Blind t → (n : ℕ) (os : List ℕ) → tested t (messageIn (restamped n os)) ≡ tested t (messageIn os)
 unfolding restamped

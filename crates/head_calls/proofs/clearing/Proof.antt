@@ -2,7 +2,7 @@
 -- Assumes nothing.
 use borrow.Author.Tests.{eq-eqb, ne-eqb}
 use borrow.Author.Needs.{needs}
-use Rattle.head_calls.specs.Fresh.{clearing}
+use Rattle.head_calls.specs.Clearing.{clearing}
 use Rattle.head_calls.proofs.clearing.Statement.{statement}
 use Rattle.head_calls.proofs.clearing.Tie as tie
 

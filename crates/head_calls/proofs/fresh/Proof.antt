@@ -42,13 +42,15 @@ use denote.Triple.Walked.{says, Stays, stay-none, stay-slice, walkOf, goes-none,
 use denote.Exit.{yes}
 use borrow.Author.Tests.{lt-ltb, le-ltb}
 use Rattle.frame.specs.declared.Address.{Address}
-use Rattle.lent.specs.Folds.{places, places-still}
+use Rattle.lent.specs.Folds.{places}
+use Rattle.lent.specs.Laws.{places-still}
 use Rattle.lent.proofs.Lending.{at-list, lends, returned}
 use Rattle.head_links.specs.Link.{idle}
 use Rattle.head_links.specs.declared.Link.{Link}
 use Rattle.head_table.specs.Events.{reacted, drivenOf, turnsOf}
 use Rattle.head_table.specs.declared.Event.{Event}
-use Rattle.head_calls.specs.Fresh.{begunOf, isDone, clearing as clearingOf, freshly, freshOf}
+use Rattle.head_calls.specs.Clearing.{clearing as clearingOf}
+use Rattle.head_calls.specs.Fresh.{begunOf, isDone, freshly, freshOf}
 use Rattle.head_calls.specs.declared.Answer.{Answer}
 use Rattle.frame.proofs.Address.Laws as M-Address
 use Rattle.head_table.proofs.Event.Laws as M-Event

@@ -1,6 +1,6 @@
 -- `box_calls::Answer::leap` meets its promise.
 -- Assumes nothing.
-use Rattle.box_calls.specs.Pass.{leapOf}
+use Rattle.box_calls.specs.Leap.{leapOf}
 use borrow.Author.Tests.{eq-eqb, ne-eqb}
 use borrow.Author.Needs.{needs}
 use Rattle.box_calls.proofs.Answer.leap.Statement.{statement}
