@@ -1,8 +1,8 @@
 -- Rules R49, R149: what writing answers, as one answer, and octets laid over others.
 -- Assumes nothing.
-use Prim.Native.Nat.{ℕ}
+use Prim.Native.Nat.{ℕ, zero, suc}
 use mathlib.Core.Bool.{cond}
-use mathlib.Core.List.{List, _++_}
+use mathlib.Core.List.{List, _++_, []}
 use lib.ListN.{length, drop, replicate}
 use Rattle.frame_range.specs.Fits.{fitsMessage}
 use Rattle.frame.specs.Layout.{encode}

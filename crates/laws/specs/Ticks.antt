@@ -1,7 +1,7 @@
 -- Rules R193 to R195, over any end: ticks one after the other, as many as are asked for, none behind one that hands something out and
 -- none that would be refused.
 -- Assumes nothing.
-use Prim.Native.Nat.{ℕ, _+_}
+use Prim.Native.Nat.{ℕ, _+_, zero, suc}
 use mathlib.Core.Bool.{Bool, cond}
 use lib.Dec.{eqb}
 
