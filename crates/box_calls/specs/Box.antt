@@ -8,9 +8,10 @@ use Rattle.frame.specs.declared.Address.{Address}
 use Rattle.frame.specs.declared.Reply.the-variants.{Done, Range, State, Unsound, Window}
 use Rattle.frame_range.specs.Fits.{isIndividual}
 use Rattle.box_registration.specs.Registration.{registering, isWaiting, isRegistered}
+use Rattle.box_processes.specs.Leaving.{localDeregister}
 use Rattle.box_processes.specs.Parts.{fresh, withRegistration, still}
 use Rattle.box_processes.specs.Sound.{soundOf as processesSound}
-use Rattle.box_ticking.specs.Tick.{localDeregister, tickOf as processesTick}
+use Rattle.box_ticking.specs.Tick.{tickOf as processesTick}
 use Rattle.box_calls.specs.Answer.{bare, refused, accepted}
 use Rattle.box_calls.specs.declared.FloorBox.{FloorBox}
 use Rattle.box_calls.specs.declared.Answer.{Answer}

@@ -197,7 +197,7 @@ impl FloorBox {
         if !registration.is_registered() {
             return self.refused(Reply::State);
         }
-        self.accepted(0, box_ticking::local_deregister(processes))
+        self.accepted(0, Step::local_deregister(processes))
     }
 
     // A message, with the caller's random number.

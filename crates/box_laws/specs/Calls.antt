@@ -19,9 +19,10 @@ use Rattle.frame.specs.declared.Reply.the-variants.{Done, Range, Direction, Sta
 use Rattle.frame_range.specs.Fits.{fitsMessage}
 use Rattle.box_registration.specs.Registration.{registering, isWaiting, isRegistered}
 use Rattle.box_telling.specs.Told.{noNotices, noFrames}
+use Rattle.box_processes.specs.Leaving.{localDeregister}
 use Rattle.box_processes.specs.Parts.{withCount, withRegistration, still}
 use Rattle.box_processes.specs.declared.Step.{Step}
-use Rattle.box_ticking.specs.Tick.{localDeregister, tickOf as processesTick}
+use Rattle.box_ticking.specs.Tick.{tickOf as processesTick}
 use Rattle.box_hearing.specs.Hear.{hearOf as processesHear}
 use Rattle.box_calls.specs.Answer.{refused, accepted}
 use Rattle.box_calls.specs.Box.{soundOf, registerOf, deregisterOf, tickOf}

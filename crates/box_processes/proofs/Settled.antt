@@ -18,6 +18,10 @@ use Rattle.box_processes.proofs.Processes.sound.Kinds as sound-kinds
 use Rattle.box_processes.proofs.Processes.sound.Reads as sound
 use Rattle.box_processes.proofs.Step.still.Kinds as still-kinds
 use Rattle.box_processes.proofs.Step.still.Reads as still
+use Rattle.box_processes.proofs.Step.local_deregister.Kinds as local-deregister-kinds
+use Rattle.box_processes.proofs.Step.local_deregister.Reads as local-deregister
+use Rattle.box_processes.proofs.farewell.Kinds as farewell-kinds
+use Rattle.box_processes.proofs.farewell.Reads as farewell
 use Rattle.box_processes.proofs.Processes.quiet.Kinds as quiet-kinds
 use Rattle.box_processes.proofs.Processes.quiet.Reads as quiet-reads
 use Rattle.box_processes.proofs.Processes.passed.Kinds as passed-kinds
@@ -46,6 +50,12 @@ sound-settles κs a e x y p q = p ∙ sym q
 
 pub still-settles : Settles 0 still-kinds.ps still-kinds.r still.Post
 still-settles κs a e x y p q = p ∙ sym q
+
+pub local-deregister-settles : Settles 0 local-deregister-kinds.ps local-deregister-kinds.r local-deregister.Post
+local-deregister-settles κs a e x y p q = p ∙ sym q
+
+pub farewell-settles : Settles 0 farewell-kinds.ps farewell-kinds.r farewell.Post
+farewell-settles κs a e x y p q = p ∙ sym q
 
 pub quiet-settles : Settles 0 quiet-kinds.ps quiet-kinds.r quiet-reads.Post
 quiet-settles κs a e x y p q = p ∙ sym q

@@ -1,5 +1,6 @@
 // The box's processes: its count, its registration, its list of grants and its transmitter.
 ghost use mathlib.Core.Path.{_≡_};
+ghost use Rattle.box_processes.specs.Leaving.{farewell, localDeregister};
 ghost use Rattle.box_processes.specs.Parts.{fresh, withCount, withRegistration, withList, withLight, waiting, still};
 ghost use Rattle.box_processes.specs.Pass.{activates, passedOf, quietOf};
 ghost use Rattle.box_processes.specs.Sound.{restsIn, soundOf};
@@ -7,9 +8,12 @@ use box_grants::GrantList;
 use box_light::Light;
 use box_registration::Registration;
 use box_registration::State;
+use box_telling::Notice;
 use box_telling::Notices;
 use box_telling::Sent;
 use clock::Count;
+use frame::Body;
+use frame::RegisterReqFlag;
 
 pub struct Processes {
     pub count: Count,
@@ -26,6 +30,17 @@ pub struct Step {
     pub notices: Notices,
     pub first: Sent,
     pub second: Sent,
+}
+
+// What a box that leaves by itself sends.
+pub fn farewell() -> Sent
+    ensures { λ r. ⌜ r ≡ farewell ⌝ }
+{
+    let body = Body::RegisterReq {
+        flag: RegisterReqFlag::Deregister,
+        pending: 0,
+    };
+    Sent::Is(body)
 }
 
 impl Processes {
@@ -186,6 +201,19 @@ impl Step {
             next: p,
             notices: Notices::none(),
             first: Sent::Nothing,
+            second: Sent::Nothing,
+        }
+    }
+
+    pub fn local_deregister(p: Processes) -> Step
+        ensures { λ r. ⌜ r ≡ localDeregister p ⌝ }
+    {
+        let none = Notices::none();
+        Step {
+            ok: true,
+            next: p.waiting(),
+            notices: none.and(Notice::Deregistered),
+            first: farewell(),
             second: Sent::Nothing,
         }
     }

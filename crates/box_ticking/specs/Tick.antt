@@ -1,4 +1,4 @@
--- Rules R94, R111, R113, R133, R136 to R138: a tick of the box, stage by stage.
+-- Rules R111, R113, R120, R133, R136 to R138: a tick of the box, stage by stage.
 -- Assumes nothing.
 use mathlib.Core.Bool.{true}
 use mathlib.Core.List.{[], _∷_}
@@ -13,6 +13,7 @@ use Rattle.box_registration.specs.declared.Bell.{Bell}
 use Rattle.box_telling.specs.Told.{noticesOf}
 use Rattle.box_telling.specs.declared.Notice.{Notice}
 use Rattle.box_telling.specs.declared.Sent.{Sent}
+use Rattle.box_processes.specs.Leaving.{farewell}
 use Rattle.box_processes.specs.Parts.{withCount, withRegistration, withLight, waiting}
 use Rattle.box_processes.specs.declared.Processes.{Processes}
 use Rattle.box_processes.specs.declared.Step.{Step}
@@ -21,15 +22,6 @@ use Rattle.box_ticking.specs.declared.Stage.{Stage}
 
 abbrev told : Processes → Notice → Sent → Stage
 told p n s = record { ok = true; next = p; notice = n; sent = s }
-
--- R94: what it hands out
-abbrev pub farewell : Sent
-farewell = Sent.Is (RegisterReq RegisterReqFlag.Deregister 0)
-
--- R94
-abbrev pub localDeregister : Processes → Step
-localDeregister p =
-    record { ok = true; next = waiting p; notices = noticesOf (Notice.Deregistered ∷ []); first = farewell; second = Sent.Nothing }
 
 abbrev pub ring : Bell → Processes → Stage
 ring Bell.Quiet p = told p Notice.Nothing Sent.Nothing

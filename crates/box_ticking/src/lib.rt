@@ -1,7 +1,7 @@
 // A tick of the box's processes, stage by stage (R136).
 ghost use mathlib.Core.Path.{_≡_};
 ghost use mathlib.Core.Bool.{true};
-ghost use Rattle.box_ticking.specs.Tick.{farewell, localDeregister, ring, shine, timed, transmitted, tickOf};
+ghost use Rattle.box_ticking.specs.Tick.{ring, shine, timed, transmitted, tickOf};
 use box_light::Beam;
 use box_processes::Processes;
 use box_processes::Step;
@@ -31,37 +31,13 @@ fn told(next: Processes, notice: Notice, sent: Sent) -> Stage
     }
 }
 
-// What a box that leaves by itself sends.
-fn farewell() -> Sent
-    ensures { λ r. ⌜ r ≡ farewell ⌝ }
-{
-    let body = Body::RegisterReq {
-        flag: RegisterReqFlag::Deregister,
-        pending: 0,
-    };
-    Sent::Is(body)
-}
-
-pub fn local_deregister(p: Processes) -> Step
-    ensures { λ r. ⌜ r ≡ localDeregister p ⌝ }
-{
-    let none = Notices::none();
-    Step {
-        ok: true,
-        next: p.waiting(),
-        notices: none.and(Notice::Deregistered),
-        first: farewell(),
-        second: Sent::Nothing,
-    }
-}
-
 fn ring(p: Processes, bell: Bell) -> Stage
     ensures { λ r. ⌜ r ≡ ring bell p ⌝ }
 {
     match bell {
         Bell::Quiet => told(p, Notice::Nothing, Sent::Nothing),
         Bell::Retry => told(p, Notice::Retry, Sent::Nothing),
-        Bell::Lost => told(p.waiting(), Notice::Deregistered, farewell()),
+        Bell::Lost => told(p.waiting(), Notice::Deregistered, box_processes::farewell()),
         Bell::Report => told(p, Notice::Nothing, Sent::Is(Body::Report)),
     }
 }

@@ -1,8 +1,8 @@
--- `box_ticking::local_deregister` meets its promise.
+-- `box_processes::Step::local_deregister` meets its promise.
 -- Assumes nothing.
 use borrow.Author.Needs.{needs}
-use Rattle.box_ticking.proofs.local_deregister.Statement.{statement}
-use Rattle.box_ticking.proofs.local_deregister.Tie as tie
+use Rattle.box_processes.proofs.Step.local_deregister.Statement.{statement}
+use Rattle.box_processes.proofs.Step.local_deregister.Tie as tie
 
 none-requires : tie.Need-none-requires
 none-requires c κs = search needs
