@@ -17,11 +17,9 @@ use box_calls::Answer;
 use box_calls::FloorBox;
 use box_telling::Frames;
 use box_telling::Notices;
+use face_words::SHORT;
 use frame::Address;
 use frame::Reply;
-
-// A lent block or slice that is too short: no number of the card.
-const SHORT: u8 = 100;
 
 // Words of a box, octets of the frames that a call hands out, words of what it tells at most.
 const BOX: usize = 29;

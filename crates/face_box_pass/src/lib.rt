@@ -19,7 +19,7 @@ const GRANTS: usize = 13;
 const COUNTS: u64 = 0x1_0000_0000;
 
 // A length, a sync time or a port is sixteen bits; a grant's sync time leaves room for what the grant needs beside it.
-const SHORT: u64 = 0xFFFF;
+const SIXTEEN_BITS: u64 = 0xFFFF;
 
 const LONGEST_SYNC: u64 = 65_461;
 
@@ -85,7 +85,7 @@ fn is_served(length: u64, sync: u64) -> bool
     if LONGEST_SYNC < sync {
         return false;
     }
-    (74 + sync <= length) & (length <= SHORT)
+    (74 + sync <= length) & (length <= SIXTEEN_BITS)
 }
 
 // The phases of discovery.
@@ -100,7 +100,7 @@ fn discovery(phase: u64, left: u64, grant: u64, sync: u64) -> u64
     }
     if (phase == 2) & (grant == 0) {
         if fits_beside(left, sync) {
-            return rings_in(left, SHORT);
+            return rings_in(left, SIXTEEN_BITS);
         }
         return 0;
     }
@@ -145,7 +145,7 @@ fn is_own(address: u64, count: u64, port: u64, sync: u64) -> bool
     ensures { λ r. ⌜ r ≡ isOwn address count port sync ⌝ }
 {
     if count < COUNTS {
-        if (port <= SHORT) & (sync <= SHORT) {
+        if (port <= SIXTEEN_BITS) & (sync <= SIXTEEN_BITS) {
             return frame_range::individual(Address(address));
         }
     }
@@ -174,7 +174,7 @@ fn are_short(b: &[u64], end: usize) -> bool
     let mut short = true;
     let mut i = GRANTS;
     while i < end {
-        short = short & (b[i] % COUNTS <= SHORT);
+        short = short & (b[i] % COUNTS <= SIXTEEN_BITS);
         i += 1;
     }
     short

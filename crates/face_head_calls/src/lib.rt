@@ -14,6 +14,7 @@ ghost use Rattle.head_links.specs.Link.{idle};
 ghost use Rattle.face_words.specs.Words.{laid};
 use clock::Count;
 use clock::Quanta;
+use face_words::SHORT;
 use frame::Address;
 use frame::Reply;
 use head_calls::Answer;
@@ -22,9 +23,6 @@ use head_gating::Leave;
 use head_judging::Call;
 use head_links::Link;
 use head_state::Head;
-
-// A lent block or slice that is too short: no number of the card.
-const SHORT: u8 = 100;
 
 // A table of no allowed size.
 const UNSOUND: u8 = 13;

@@ -7,6 +7,10 @@ use lib.Dec.{eqb}
 use lib.IntN.{ℤ, pos, negsuc}
 use lib.ListN.{length, take, drop}
 
+-- the face's own number, which none of the card's is: too little memory is lent, and nothing is touched
+abbrev pub short : ℕ
+short = 100
+
 -- a list over the beginning of another, as far as there is room; what stands behind it stays
 unfoldable pub laid : List ℕ → List ℕ → List ℕ
 laid from to = take (min (length from) (length to)) from ++ drop (min (length from) (length to)) to

@@ -3,6 +3,9 @@ ghost use mathlib.Core.Path.{_≡_};
 ghost use Prim.Native.Nat.{min};
 ghost use Rattle.face_words.specs.Words.{laid, same, narrowed, driftWord};
 
+// The face's own number, which none of the card's is: too little memory is lent, and nothing is touched.
+pub const SHORT: u8 = 100;
+
 // How many words both have.
 fn shorter(from: usize, to: usize) -> usize
     ensures { λ r. ⌜ r ≡ min from to ⌝ }
