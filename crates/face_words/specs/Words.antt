@@ -1,7 +1,7 @@
 -- What words of 64 bits stand for, and how words are laid into lent memory.
 -- Assumes nothing.
 use Prim.Native.Nat.{ℕ, _-_, _^_, min}
-use mathlib.Core.Bool.{Bool, true, false, _&&_}
+use mathlib.Core.Bool.{Bool, true, false, cond, _&&_}
 use mathlib.Core.List.{List, [], _∷_, _++_}
 use lib.Dec.{eqb}
 use lib.IntN.{ℤ, pos, negsuc}
@@ -25,6 +25,9 @@ same (x ∷ a) (y ∷ b) = eqb x y && same a b
 -- a number of 32 bits as it is; one that is too large as the largest
 abbrev pub narrowed : ℕ → ℕ
 narrowed w = min w 4294967295
+
+abbrev pub bit : Bool → ℕ
+bit set = cond set 1 0
 
 -- two's complement at 64 bits
 abbrev pub driftWord : ℤ → ℕ

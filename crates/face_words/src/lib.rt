@@ -1,7 +1,7 @@
 // Words of 64 bits, as the C face keeps states and answers in the caller's memory.
 ghost use mathlib.Core.Path.{_≡_};
 ghost use Prim.Native.Nat.{min};
-ghost use Rattle.face_words.specs.Words.{laid, same, narrowed, driftWord};
+ghost use Rattle.face_words.specs.Words.{laid, same, narrowed, bit, driftWord};
 
 // The face's own number, which none of the card's is: too little memory is lent, and nothing is touched.
 pub const SHORT: u8 = 100;
@@ -49,6 +49,13 @@ pub fn narrow(word: u64) -> u32
         return word as u32;
     }
     0xFFFFFFFF
+}
+
+// A bit as a word.
+pub fn bit(set: bool) -> u64
+    ensures { λ r. ⌜ r ≡ bit set ⌝ }
+{
+    if set { 1 } else { 0 }
 }
 
 // A drift as a word: two's complement, as C's int64_t reads it.
