@@ -221,13 +221,6 @@ pub fn tick(block: &mut [u64], frames: &mut [u8], reply: &mut [u64]) -> u8
     SHORT
 }
 
-fn tell_made(ticks: u64, made: &mut [u64])
-    ensures { λ _. ⌜ now (made .exit) ≡ laid (ticks ∷ []) (now (made .entry)) ⌝ }
-{
-    let told = [ticks];
-    face_words::lay(&told, made);
-}
-
 // The core's advance.
 fn count_ticks(
     n: u64,
@@ -242,7 +235,7 @@ fn count_ticks(
     let b = load(block);
     let advanced = b.advance(n);
     let answer = advanced.answer;
-    tell_made(advanced.made, made);
+    face_words::lay_word(advanced.made, made);
     settle(answer, block, frames, reply)
 }
 
@@ -270,7 +263,7 @@ pub fn advance(
         if are_quiet(n, block) {
             face_box_pass::pass(block, n as u32);
             tell_nothing(reply);
-            tell_made(n, made);
+            face_words::lay_word(n, made);
             return 0;
         }
         return count_ticks(n, block, frames, reply, made);

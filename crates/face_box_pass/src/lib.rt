@@ -1,13 +1,15 @@
 // The box's quiet ticks over its words where they lie in the caller's memory: how many are sure, and so many of them made. No box is taken
 // from the words, and only those that move are written.
 ghost use mathlib.Core.Path.{_≡_};
-ghost use Prim.Native.Nat.{_+_, _-_, _%_, _≤_, min};
+ghost use Prim.Native.Nat.{_+_, _%_, _≤_};
 ghost use lib.ListN.{length, drop, take};
 ghost use Rattle.face_box.specs.Box.{isClear};
 ghost use Rattle.face_box_pass.specs.Block.{untilCall};
 ghost use Rattle.face_box_pass.specs.Judging.{ringsIn, timesOf, fitsBeside, discoveryOf, isServed, lightOf, isOwn, areShort, isAmong, areHeld, isListed, shinesOf, judgedOf};
 ghost use Rattle.face_box_pass.specs.Passing.{movedOf, passedWords};
 use clock::Timer;
+use face_words::least;
+use face_words::less;
 use frame::Address;
 
 // Words of a box, and the place of its list's first grant.
@@ -22,15 +24,6 @@ const COUNTS: u64 = 0x1_0000_0000;
 const SIXTEEN_BITS: u64 = 0xFFFF;
 
 const LONGEST_SYNC: u64 = 65_461;
-
-fn least(a: u64, b: u64) -> u64
-    ensures { λ r. ⌜ r ≡ min a b ⌝ }
-{
-    if a < b {
-        return a;
-    }
-    b
-}
 
 // A timer that runs, and has no more left than its longest setting: the ticks before the one at which it rings. None of any other.
 fn rings_in(left: u64, most: u64) -> u64
@@ -272,16 +265,6 @@ pub fn quiet(block: &[u64]) -> u32
         return 0;
     }
     least(judged(block), Timer::FURTHEST_ADVANCE as u64) as u32
-}
-
-// A timer that has fewer left stops.
-fn less(left: u64, k: u64) -> u64
-    ensures { λ r. ⌜ r ≡ left - k ⌝ }
-{
-    if left < k {
-        return 0;
-    }
-    left - k
 }
 
 // The count wraps.
