@@ -9,7 +9,7 @@ use Rattle.box_telling.specs.Told.{isNothing}
 use Rattle.box_telling.specs.declared.Notice.{Notice}
 use Rattle.box_telling.specs.declared.Notices.{Notices}
 use Rattle.box_telling.specs.declared.Notice.the-variants.{Nothing, Window, Registered, Refused, Retry, Deregistered, Granted, Open, Close}
-use Rattle.face_words.specs.Words.{driftWord}
+use Rattle.face_words.specs.Words.{bit, driftWord}
 use Rattle.face_box.specs.declared.NoticeWords.{NoticeWords}
 
 abbrev pub kindWords : ℕ → NoticeWords
@@ -22,7 +22,7 @@ noticeWords Registered = kindWords 2
 noticeWords Refused = kindWords 3
 noticeWords Retry = kindWords 4
 noticeWords Deregistered = kindWords 5
-noticeWords (Granted g) = record { kind = 6; start = g .start .0; length = g .length .0; force = cond (g .force) 1 0 }
+noticeWords (Granted g) = record { kind = 6; start = g .start .0; length = g .length .0; force = bit (g .force) }
 noticeWords Open = kindWords 7
 noticeWords Close = kindWords 8
 

@@ -1,6 +1,5 @@
 // A box as words of 64 bits, which is how the C face keeps it in the caller's memory, and a box's answer as words.
 ghost use mathlib.Core.Path.{_≡_};
-ghost use mathlib.Core.Bool.{cond};
 ghost use mathlib.Core.List.{map};
 ghost use lib.ListN.{drop};
 ghost use Rattle.face_box.specs.Box.{entryWord, entryOf, stateWord, stateOf, registrationOf, phaseWords, lightWords, discoveryOf, lightOf, listOf, frontWords, frontOf, boxed, isClear, hasWords, boxWords, nobody, boxIn};
@@ -381,12 +380,6 @@ fn kind(kind: u64) -> NoticeWords
     }
 }
 
-fn bit(set: bool) -> u64
-    ensures { λ r. ⌜ r ≡ cond set 1 0 ⌝ }
-{
-    if set { 1 } else { 0 }
-}
-
 fn notice_words(notice: Notice) -> NoticeWords
     ensures { λ r. ⌜ r ≡ noticeWords notice ⌝ }
 {
@@ -404,7 +397,7 @@ fn notice_words(notice: Notice) -> NoticeWords
                 kind: 6,
                 start: start.0 as u64,
                 length: length.0 as u64,
-                force: bit(grant.force),
+                force: face_words::bit(grant.force),
             }
         }
         Notice::Open => kind(7),

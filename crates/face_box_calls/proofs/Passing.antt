@@ -21,7 +21,7 @@ use Rattle.box_calls.specs.Pass.{quietOf}
 use Rattle.box_calls.specs.Quiet.{quiet-one}
 use Rattle.box_calls.specs.Turns.{advance-quiet}
 use Rattle.frame.specs.declared.Reply.the-variants.{Done}
-use Rattle.face_words.specs.Words.{laid}
+use Rattle.face_words.specs.Words.{short, laid}
 use Rattle.face_box_calls.specs.Advancing.{advancedOf}
 use Rattle.face_box_calls.specs.Calls.{left, isLent, toldOf, handed, settled, advanceLeft, advanceCall}
 
@@ -59,12 +59,12 @@ advance-left n block frames reply made h r u =
 
 -- what is lent for an advance
 module _ (n : ℕ) (block frames reply made : List ℕ) where
-  pub none-made : length made ≡ 0 → advanceLeft (left 100 block frames reply) made ≡ advanceCall n block frames reply made
+  pub none-made : length made ≡ 0 → advanceLeft (left short block frames reply) made ≡ advanceCall n block frames reply made
   unfolding advanceCall
   none-made z = rw (z, and-false (isLent (length block) (length frames) (length reply)))
 
   module _ (t : Bool) (e : t ≡ isLent (length block) (length frames) (length reply)) where
-    pub too-little : t ≡ false → advanceLeft (left 100 block frames reply) made ≡ advanceCall n block frames reply made
+    pub too-little : t ≡ false → advanceLeft (left short block frames reply) made ≡ advanceCall n block frames reply made
     unfolding advanceCall
     too-little f = rw (← e, f)
 

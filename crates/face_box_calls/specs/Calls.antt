@@ -18,7 +18,7 @@ use Rattle.box_calls.specs.declared.FloorBox.{FloorBox}
 use Rattle.frame.specs.Card.{numberOf}
 use Rattle.frame_reader.specs.Decode.{readOf}
 use Rattle.box_telling.specs.declared.Frames.{Frames}
-use Rattle.face_words.specs.Words.{laid}
+use Rattle.face_words.specs.Words.{short, laid}
 unfoldable pub use Rattle.face_box_pass.specs.Block.{wordsAt, boxAt, untilCall}
 
 -- the number that a call returns, and what then stands in the block and in what was lent
@@ -83,13 +83,13 @@ unfoldable pub freshCall : ℕ → List ℕ → List ℕ → List ℕ → Left
 freshCall address block frames reply =
     cond (isLent (length block) (length frames) (length reply))
     (handed (freshOf (record { 0 = address })) block frames reply)
-    (left 100 block frames reply)
+    (left short block frames reply)
 
 -- a call is that of the box in the block; where too little is lent it is 100, and nothing is touched
 unfoldable pub boxCall : (FloorBox → Answer) → List ℕ → List ℕ → List ℕ → Left
 boxCall f block frames reply =
     cond (isLent (length block) (length frames) (length reply)) (settled (f (boxAt block)) block frames reply)
-    (left 100 block frames reply)
+    (left short block frames reply)
 
 -- what an advance leaves: what a call does, and how many ticks were made
 pub record AdvanceLeft : Type 0 where
@@ -106,10 +106,10 @@ advanceCall n block frames reply made =
     let a = advanceOf (boxAt block) n in
     cond (isLent (length block) (length frames) (length reply) && leb 1 (length made))
     (advanceLeft (settled (a .answer) block frames reply) (laid (a .made ∷ []) made))
-    (advanceLeft (left 100 block frames reply) made)
+    (advanceLeft (left short block frames reply) made)
 
 -- none where what goes next is empty; the control frame, or where there is none the data frame
 unfoldable pub nextCall : List ℕ → RefT (List ℕ) → RefT (List ℕ) → ℕ
 nextCall block control frame =
-    cond (ltb (length block) 29) 100
+    cond (ltb (length block) 29) short
     (cond (eqb (length (sendOf (boxAt block) control frame .now)) 0) 0 (cond (ltb 0 (length (control .now))) 1 2))

@@ -17,11 +17,9 @@ use box_calls::Answer;
 use box_calls::FloorBox;
 use box_telling::Frames;
 use box_telling::Notices;
+use face_words::SHORT;
 use frame::Address;
 use frame::Reply;
-
-// A lent block or slice that is too short: no number of the card.
-const SHORT: u8 = 100;
 
 // Words of a box, octets of the frames that a call hands out, words of what it tells at most.
 const BOX: usize = 29;
@@ -223,13 +221,6 @@ pub fn tick(block: &mut [u64], frames: &mut [u8], reply: &mut [u64]) -> u8
     SHORT
 }
 
-fn tell_made(ticks: u64, made: &mut [u64])
-    ensures { λ _. ⌜ now (made .exit) ≡ laid (ticks ∷ []) (now (made .entry)) ⌝ }
-{
-    let told = [ticks];
-    face_words::lay(&told, made);
-}
-
 // The core's advance.
 fn count_ticks(
     n: u64,
@@ -244,7 +235,7 @@ fn count_ticks(
     let b = load(block);
     let advanced = b.advance(n);
     let answer = advanced.answer;
-    tell_made(advanced.made, made);
+    face_words::lay_word(advanced.made, made);
     settle(answer, block, frames, reply)
 }
 
@@ -272,7 +263,7 @@ pub fn advance(
         if are_quiet(n, block) {
             face_box_pass::pass(block, n as u32);
             tell_nothing(reply);
-            tell_made(n, made);
+            face_words::lay_word(n, made);
             return 0;
         }
         return count_ticks(n, block, frames, reply, made);

@@ -1,13 +1,15 @@
 // The box's quiet ticks over its words where they lie in the caller's memory: how many are sure, and so many of them made. No box is taken
 // from the words, and only those that move are written.
 ghost use mathlib.Core.Path.{_≡_};
-ghost use Prim.Native.Nat.{_+_, _-_, _%_, _≤_, min};
+ghost use Prim.Native.Nat.{_+_, _%_, _≤_};
 ghost use lib.ListN.{length, drop, take};
 ghost use Rattle.face_box.specs.Box.{isClear};
 ghost use Rattle.face_box_pass.specs.Block.{untilCall};
 ghost use Rattle.face_box_pass.specs.Judging.{ringsIn, timesOf, fitsBeside, discoveryOf, isServed, lightOf, isOwn, areShort, isAmong, areHeld, isListed, shinesOf, judgedOf};
 ghost use Rattle.face_box_pass.specs.Passing.{movedOf, passedWords};
 use clock::Timer;
+use face_words::least;
+use face_words::less;
 use frame::Address;
 
 // Words of a box, and the place of its list's first grant.
@@ -19,18 +21,9 @@ const GRANTS: usize = 13;
 const COUNTS: u64 = 0x1_0000_0000;
 
 // A length, a sync time or a port is sixteen bits; a grant's sync time leaves room for what the grant needs beside it.
-const SHORT: u64 = 0xFFFF;
+const SIXTEEN_BITS: u64 = 0xFFFF;
 
 const LONGEST_SYNC: u64 = 65_461;
-
-fn least(a: u64, b: u64) -> u64
-    ensures { λ r. ⌜ r ≡ min a b ⌝ }
-{
-    if a < b {
-        return a;
-    }
-    b
-}
 
 // A timer that runs, and has no more left than its longest setting: the ticks before the one at which it rings. None of any other.
 fn rings_in(left: u64, most: u64) -> u64
@@ -85,7 +78,7 @@ fn is_served(length: u64, sync: u64) -> bool
     if LONGEST_SYNC < sync {
         return false;
     }
-    (74 + sync <= length) & (length <= SHORT)
+    (74 + sync <= length) & (length <= SIXTEEN_BITS)
 }
 
 // The phases of discovery.
@@ -100,7 +93,7 @@ fn discovery(phase: u64, left: u64, grant: u64, sync: u64) -> u64
     }
     if (phase == 2) & (grant == 0) {
         if fits_beside(left, sync) {
-            return rings_in(left, SHORT);
+            return rings_in(left, SIXTEEN_BITS);
         }
         return 0;
     }
@@ -145,7 +138,7 @@ fn is_own(address: u64, count: u64, port: u64, sync: u64) -> bool
     ensures { λ r. ⌜ r ≡ isOwn address count port sync ⌝ }
 {
     if count < COUNTS {
-        if (port <= SHORT) & (sync <= SHORT) {
+        if (port <= SIXTEEN_BITS) & (sync <= SIXTEEN_BITS) {
             return frame_range::individual(Address(address));
         }
     }
@@ -174,7 +167,7 @@ fn are_short(b: &[u64], end: usize) -> bool
     let mut short = true;
     let mut i = GRANTS;
     while i < end {
-        short = short & (b[i] % COUNTS <= SHORT);
+        short = short & (b[i] % COUNTS <= SIXTEEN_BITS);
         i += 1;
     }
     short
@@ -272,16 +265,6 @@ pub fn quiet(block: &[u64]) -> u32
         return 0;
     }
     least(judged(block), Timer::FURTHEST_ADVANCE as u64) as u32
-}
-
-// A timer that has fewer left stops.
-fn less(left: u64, k: u64) -> u64
-    ensures { λ r. ⌜ r ≡ left - k ⌝ }
-{
-    if left < k {
-        return 0;
-    }
-    left - k
 }
 
 // The count wraps.

@@ -1,7 +1,6 @@
 -- Face: a message as ten words of 64 bits: which word holds what.
 -- Assumes nothing.
 use Prim.Native.Nat.{ℕ, _+_, _-_, _*_, _^_}
-use mathlib.Core.Bool.{cond}
 use mathlib.Core.List.{List, [], _∷_, _++_, map}
 use lib.ListN.{length, replicate}
 use Rattle.frame.specs.Layout.{listed, forceBits, registerReqFlag, registerFlag, registerAckFlag}
@@ -9,6 +8,7 @@ use Rattle.frame.specs.declared.Body.{Body}
 use Rattle.frame.specs.declared.Body.the-variants.{Gate, Discovery, Report, RegisterReq, Register, RegisterAck}
 use Rattle.frame.specs.declared.Grant.{Grant}
 use Rattle.frame.specs.declared.Message.{Message}
+use Rattle.face_words.specs.Words.{bit}
 
 abbrev pub kindOf : Body → ℕ
 kindOf (Gate grants) = 0
@@ -26,7 +26,7 @@ grantWord g = g .start .0 * 2 ^ 32 + g .length .0
 abbrev pub fieldsOf : Body → List ℕ
 -- how many grants, their force bits as on the wire, and the grants
 fieldsOf (Gate grants) = length (listed grants) ∷ forceBits (listed grants) ∷ map grantWord (listed grants)
-fieldsOf (Discovery grant sync) = sync .0 ∷ cond (grant .force) 1 0 ∷ grantWord grant ∷ []
+fieldsOf (Discovery grant sync) = sync .0 ∷ bit (grant .force) ∷ grantWord grant ∷ []
 fieldsOf Report = []
 fieldsOf (RegisterReq flag pending) = registerReqFlag flag ∷ pending ∷ []
 fieldsOf (Register port flag sync pending) = registerFlag flag ∷ port ∷ sync .0 ∷ pending ∷ []

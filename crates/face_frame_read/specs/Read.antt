@@ -9,6 +9,7 @@ use Rattle.frame.specs.Card.{numberOf}
 use Rattle.frame.specs.declared.Reading.{Reading}
 use Rattle.frame_reader.specs.Decode.{readOf}
 use Rattle.face_frame.specs.Message.{messageWords}
+use Rattle.face_words.specs.Words.{short}
 
 -- the number that the call returns, and what then stands in the message's words
 pub record ReadLeft : Type 0 where
@@ -24,4 +25,4 @@ told r message = readLeft (numberOf (r .reply)) (messageWords (r .message) ++ dr
 
 -- the reader's answer; where fewer than ten words are lent it is 100, and nothing is touched
 unfoldable pub readCall : List ℕ → List ℕ → ReadLeft
-readCall octets message = cond (ltb (length message) 10) (readLeft 100 message) (told (readOf octets) message)
+readCall octets message = cond (ltb (length message) 10) (readLeft short message) (told (readOf octets) message)

@@ -9,11 +9,9 @@ ghost use Rattle.frame.specs.declared.Body.the-variants.{Report};
 ghost use Rattle.frame_reader.specs.Decode.{gateAt, registerReqAt, registerAt, registerAckAt, readControl};
 ghost use Rattle.face_frame_read.specs.Read.{readLeft, told, readCall};
 ghost use Rattle.face_frame_read.specs.Steps.{tenOver, bodied, blank, wordAt, ranged, discoveryRead, grantsRead};
+use face_words::SHORT;
 use frame::Body;
 use frame::Message;
-
-// A lent slice that is too short: no number of the card.
-const SHORT: u8 = 100;
 
 // The card's numbers for a refused frame.
 const SIZE: u8 = 1;

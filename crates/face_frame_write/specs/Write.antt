@@ -10,6 +10,7 @@ use Rattle.frame.specs.declared.Reply.the-variants.{Range}
 use Rattle.frame.specs.declared.Writing.{Writing}
 use Rattle.face_frame.specs.Tells.{messageOf, isMessage}
 use Rattle.frame_writer.specs.Write.{writeOf}
+use Rattle.face_words.specs.Words.{short}
 
 -- the number that the call returns, and what then stands in the octets
 pub record WriteLeft : Type 0 where
@@ -31,4 +32,4 @@ written w octets = writeLeft (numberOf (w .reply)) (w .octets ++ drop 60 octets)
 -- the writer's answer to the first ten words; where fewer, or fewer than sixty octets, are lent it is 100, and nothing is touched
 unfoldable pub writeCall : List ℕ → List ℕ → WriteLeft
 writeCall message octets =
-    cond (leb 10 (length message) && leb 60 (length octets)) (written (writingOf (take 10 message)) octets) (writeLeft 100 octets)
+    cond (leb 10 (length message) && leb 60 (length octets)) (written (writingOf (take 10 message)) octets) (writeLeft short octets)

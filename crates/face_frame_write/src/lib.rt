@@ -10,11 +10,9 @@ ghost use Rattle.frame.specs.Layout.{frameOf};
 ghost use Rattle.frame_writer.specs.Write.{over};
 ghost use Rattle.face_frame_write.specs.Write.{writeLeft, writingOf, written, writeCall};
 ghost use Rattle.face_frame_write.specs.Steps.{headerIn, grantIn, forceIn, gateIn, grantOver, gateLaid, discoveryLaid, reportLaid, registerReqLaid, registerLaid, registerAckLaid};
+use face_words::SHORT;
 use frame::Body;
 use frame::Message;
-
-// A lent slice that is too short: no number of the card.
-const SHORT: u8 = 100;
 
 // The card's number for what has no frame.
 const RANGE: u8 = 4;

@@ -37,7 +37,7 @@ use Rattle.head_calls.specs.Fresh.{Freshly, isDone, begunOf, freshOf}
 use Rattle.head_calls.specs.Serve.{Served, doneOf, serveOf}
 use Rattle.head_calls.specs.declared.Answer.{Answer}
 use Rattle.face_words.specs.Laws.{laid-over}
-use Rattle.face_words.specs.Words.{laid}
+use Rattle.face_words.specs.Words.{short, laid}
 use Rattle.face_head_calls.specs.Calls.{Left, left, AnswerLeft, answerLeft, begunLeft, advanceLeft, Told, told, isLent, laidHead, keptHead, keptLinks, begunHead, toldOf, answeredOf, handed, servedOf, advancedOf, advanceCall, quietBy, refusedOf, heardOf, cleared, begunOf as begun}
 use Rattle.face_head_calls.specs.Lend.{keptOf, LendLeft, lendLeft, lendOf, ClearLeft, clearLeft, clearOf}
 
@@ -169,7 +169,7 @@ pub served-whole : (r : Call) (head links output reply : List ℕ) (t : Bool) (a
 unfolding servedOf
 served-whole r head links output reply t a head′ links′ output′ reply′ k lent taken said tells =
     told-whole r head links output reply a head′ links′ output′ reply′ k said tells
-    ∙ ap (λ (b : Bool). cond b (handed (serveOf (headAt head) (linksAt links) r output) head links reply) (left 100 head links output reply)) (sym taken ∙ lent)
+    ∙ ap (λ (b : Bool). cond b (handed (serveOf (headAt head) (linksAt links) r output) head links reply) (left short head links output reply)) (sym taken ∙ lent)
 
 pub advanced-whole : (n : ℕ) (head links output reply made : List ℕ) (a : Answer) (head′ links′ output′ reply′ made′ : List ℕ) (k : ℕ)
     → answerLeft a head′ links′ output′ ≡ answeredOf (Call.Advance n) head links output → told k reply′ ≡ toldOf a reply
@@ -249,7 +249,7 @@ begun-whole o head links reply t n a head′ links′ reply′ k lent taken few 
     ap (λ (u : Told). begunLeft (u .number) head′ links′ (u .reply)) tells
     ∙ ap (λ (us : List ℕ). begunLeft (numberOf (a .reply)) us links′ (laid (toldWords a) reply)) lays
     ∙ ap (λ (u : ClearLeft). begunLeft (numberOf (u .answer .reply)) (begunHead (u .answer) head) (u .words) (laid (toldWords (u .answer)) reply)) whole
-    ∙ ap (λ (b : Bool). cond b (cleared made head links reply) (begunLeft 100 head links reply)) (sym taken ∙ lent)
+    ∙ ap (λ (b : Bool). cond b (cleared made head links reply) (begunLeft short head links reply)) (sym taken ∙ lent)
 
 -- a frame that the reader refused
 pub heard-refused : (link : ℕ) (octets head links output reply : List ℕ) (r : Reading) (n k : ℕ) (reply′ : List ℕ)

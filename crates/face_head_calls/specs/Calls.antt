@@ -21,7 +21,7 @@ use Rattle.frame_reader.specs.Decode.{readOf}
 use Rattle.head_calls.specs.Fresh.{Freshly, isDone, freshOf}
 use Rattle.head_calls.specs.Serve.{Served, serveOf}
 use Rattle.head_calls.specs.declared.Answer.{Answer}
-use Rattle.face_words.specs.Words.{laid}
+use Rattle.face_words.specs.Words.{short, laid}
 
 -- the number that a call returns, and what then stands in the head's block, in the table, in the output and in the reply
 pub record Left : Type 0 where
@@ -95,7 +95,7 @@ handed done head links reply =
 unfoldable pub servedOf : Call → List ℕ → List ℕ → List ℕ → List ℕ → Left
 servedOf r head links output reply =
     cond (isLent (length head) (length reply)) (handed (serveOf (headAt head) (linksAt links) r output) head links reply)
-    (left 100 head links output reply)
+    (left short head links output reply)
 
 -- what an advance leaves: what a call does, and how many ticks were made
 pub record AdvanceLeft : Type 0 where
@@ -114,7 +114,7 @@ advancedOf n head links output reply made =
 unfoldable pub advanceCall : ℕ → List ℕ → List ℕ → List ℕ → List ℕ → List ℕ → AdvanceLeft
 advanceCall n head links output reply made =
     cond (isLent (length head) (length reply) && leb 1 (length made)) (advancedOf n head links output reply made)
-    (advanceLeft (left 100 head links output reply) made)
+    (advanceLeft (left short head links output reply) made)
 
 -- n ticks that a call may make, each of which hands out nothing
 unfoldable pub quietBy : ℕ → List ℕ → List ℕ → ℕ → Bool
@@ -123,7 +123,7 @@ quietBy n head links octets = cond (inReach n && hasRoom (linksIn (length links)
 -- a refusal of the reader's: nothing is changed, and nothing told
 unfoldable pub refusedOf : Reply → List ℕ → List ℕ → Told
 refusedOf why head reply =
-    cond (isLent (length head) (length reply)) (told (numberOf why) (laid (replicate 2 0) reply)) (told 100 reply)
+    cond (isLent (length head) (length reply)) (told (numberOf why) (laid (replicate 2 0) reply)) (told short reply)
 
 -- the octets are read, and the message heard
 unfoldable pub heardOf : ℕ → List ℕ → List ℕ → List ℕ → List ℕ → List ℕ → Left
@@ -146,4 +146,4 @@ cleared made head links reply =
 -- a fresh head over the links in the words
 unfoldable pub begunOf : Address → List ℕ → List ℕ → List ℕ → BegunLeft
 begunOf a head links reply =
-    cond (isLent (length head) (length reply)) (cleared (freshOf a (linksAt links)) head links reply) (begunLeft 100 head links reply)
+    cond (isLent (length head) (length reply)) (cleared (freshOf a (linksAt links)) head links reply) (begunLeft short head links reply)

@@ -1,6 +1,5 @@
 // The head's calls over words in the caller's memory: head and table are taken from them, and laid back where a call is done.
 ghost use mathlib.Core.Path.{_≡_};
-ghost use mathlib.Core.List.{[], _∷_};
 ghost use Prim.Native.Nat.{_≤_};
 ghost use lib.ListN.{getD, replicate};
 ghost use Rattle.face_head_calls.specs.Calls.{left, answerLeft, begunLeft, advanceLeft, told, isLent, laidHead, keptHead, begunHead, toldOf, answeredOf, refusedOf, servedOf, heardOf, begunOf, quietBy, advancedOf, advanceCall};
@@ -14,6 +13,7 @@ ghost use Rattle.head_links.specs.Link.{idle};
 ghost use Rattle.face_words.specs.Words.{laid};
 use clock::Count;
 use clock::Quanta;
+use face_words::SHORT;
 use frame::Address;
 use frame::Reply;
 use head_calls::Answer;
@@ -22,9 +22,6 @@ use head_gating::Leave;
 use head_judging::Call;
 use head_links::Link;
 use head_state::Head;
-
-// A lent block or slice that is too short: no number of the card.
-const SHORT: u8 = 100;
 
 // A table of no allowed size.
 const UNSOUND: u8 = 13;
@@ -308,13 +305,6 @@ pub fn ticks_until(head: &[u64], links: &[u64]) -> u64
     face_head_pass::quiet(head, links) as u64
 }
 
-fn lay_made(ticks: u64, made: &mut [u64])
-    ensures { λ _. ⌜ now (made .exit) ≡ laid (ticks ∷ []) (now (made .entry)) ⌝ }
-{
-    let word = [ticks];
-    face_words::lay(&word, made);
-}
-
 // So many ticks, where each is quiet.
 fn quiet_by(n: u64, head: &[u64], links: &[u64], out: usize) -> bool
     ensures { λ r. ⌜ r ≡ quietBy n (now (head .entry)) (now (links .entry)) out ⌝ }
@@ -337,7 +327,7 @@ fn advanced(
     ensures { λ r. ⌜ advanceLeft (left r (now (head .exit)) (now (links .exit)) (now (out .exit)) (now (reply .exit))) (now (made .exit)) ≡ advancedOf n (now (head .entry)) (now (links .entry)) (now (out .entry)) (now (reply .entry)) (now (made .entry)) ⌝ }
 {
     let answer = answered(Call::Advance(n), head, links, out);
-    lay_made(answer.made, made);
+    face_words::lay_word(answer.made, made);
     tell(answer, reply)
 }
 
@@ -357,7 +347,7 @@ pub fn advance(
             face_head_pass::pass_head(head, n as u32);
             face_head_pass::pass_links(links, n);
             tell_nothing(reply);
-            lay_made(n, made);
+            face_words::lay_word(n, made);
             return 0;
         }
         return advanced(n, head, links, out, reply, made);

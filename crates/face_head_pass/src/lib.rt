@@ -1,7 +1,7 @@
 // The head's quiet ticks in place: the words of a head and of its links are judged where they stand in the caller's memory, and only those
 // that move are written.
 ghost use mathlib.Core.Path.{_≡_};
-ghost use Prim.Native.Nat.{_+_, _-_, _*_, _≤_, _<_, min};
+ghost use Prim.Native.Nat.{_+_, _*_, _≤_, _<_};
 ghost use lib.Dec.{leb};
 ghost use lib.ListN.{length, drop, getD, set, replicate};
 ghost use Rattle.face_head_pass.specs.Passed.{passedAt, passedHead, passedLinks};
@@ -14,6 +14,8 @@ ghost use Rattle.head_state.specs.Head.{afterOf};
 ghost use Rattle.frame_range.specs.Fits.{isIndividual};
 ghost use Rattle.face_words.specs.Words.{laid};
 use face_head::LinkWords;
+use face_words::least;
+use face_words::less;
 use head_state::Head;
 
 // Words of a head, and of a link.
@@ -37,15 +39,6 @@ const BEHIND: u64 = 65_537;
 
 // Up to so many links are few: they need few marks, and to clear many takes longer than to judge them.
 const FEW: usize = 8;
-
-fn least(a: u64, b: u64) -> u64
-    ensures { λ r. ⌜ r ≡ min a b ⌝ }
-{
-    if a < b {
-        return a;
-    }
-    b
-}
 
 fn runs(left: u64, most: u64) -> bool
     ensures { λ r. ⌜ r ≡ runs (record { left = left }) most ⌝ }
@@ -307,15 +300,6 @@ pub fn is_quiet(head: &[u64], links: &[u64]) -> bool
         return true;
     }
     all_differ(links, n)
-}
-
-fn less(left: u64, k: u64) -> u64
-    ensures { λ r. ⌜ r ≡ left - k ⌝ }
-{
-    if left < k {
-        return 0;
-    }
-    left - k
 }
 
 fn pass_at(links: &mut [u64], at: usize, k: u64)

@@ -1,7 +1,30 @@
 // Words of 64 bits, as the C face keeps states and answers in the caller's memory.
 ghost use mathlib.Core.Path.{_≡_};
-ghost use Prim.Native.Nat.{min};
-ghost use Rattle.face_words.specs.Words.{laid, same, narrowed, driftWord};
+ghost use mathlib.Core.List.{[], _∷_};
+ghost use Prim.Native.Nat.{_-_, min};
+ghost use Rattle.face_words.specs.Words.{laid, same, narrowed, bit, driftWord};
+
+// The face's own number, which none of the card's is: too little memory is lent, and nothing is touched.
+pub const SHORT: u8 = 100;
+
+pub fn least(a: u64, b: u64) -> u64
+    ensures { λ r. ⌜ r ≡ min a b ⌝ }
+{
+    if a < b {
+        return a;
+    }
+    b
+}
+
+// So much less, and never below 0: a timer that has fewer left stops.
+pub fn less(left: u64, k: u64) -> u64
+    ensures { λ r. ⌜ r ≡ left - k ⌝ }
+{
+    if left < k {
+        return 0;
+    }
+    left - k
+}
 
 // How many words both have.
 fn shorter(from: usize, to: usize) -> usize
@@ -20,6 +43,14 @@ pub fn lay(from: &[u64], to: &mut [u64])
         to[i] = from[i];
         i += 1;
     }
+}
+
+// The same of a single word.
+pub fn lay_word(word: u64, to: &mut [u64])
+    ensures { λ _. ⌜ now (to .exit) ≡ laid (word ∷ []) (now (to .entry)) ⌝ }
+{
+    let words = [word];
+    lay(&words, to);
 }
 
 // Whether both are the same words.
@@ -46,6 +77,13 @@ pub fn narrow(word: u64) -> u32
         return word as u32;
     }
     0xFFFFFFFF
+}
+
+// A bit as a word.
+pub fn bit(set: bool) -> u64
+    ensures { λ r. ⌜ r ≡ bit set ⌝ }
+{
+    if set { 1 } else { 0 }
 }
 
 // A drift as a word: two's complement, as C's int64_t reads it.

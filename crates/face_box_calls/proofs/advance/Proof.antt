@@ -27,8 +27,8 @@ pass-requires c κs = search needs
 tell-nothing-requires : tie.Need-tell-nothing-requires
 tell-nothing-requires c κs = search needs
 
-tell-made-requires : tie.Need-tell-made-requires
-tell-made-requires c κs = search needs
+lay-word-requires : tie.Need-lay-word-requires
+lay-word-requires c κs = search needs
 
 same-length : tie.Need-same-length
 same-length c = search needs
@@ -44,7 +44,7 @@ returns-2 c =
     let lent = c .before .before .before .before .before .before .before .before .before .before .before .before .before .before .before .before .is-lent .ensures in
     let taken = c .before .before .before .before .before .before .before .before .before .before .before .before .before .before .before .if2 .taken in
     let quiet = quiet-parts _ _ _ (c .before .before .before .before .before .before .before .before .before .before .before .before .before .are-quiet .ensures) (c .before .before .before .before .before .before .before .before .before .before .before .before .if3 .taken) in
-    rw (c .before .before .tell-made .ensures, c .before .before .before .before .before .before .tell-nothing .ensures, c .before .before .before .before .before .before .before .before .before .before .pass .ensures)
+    rw (c .before .before .lay-word .ensures, c .before .before .before .before .before .before .tell-nothing .ensures, c .before .before .before .before .before .before .before .before .before .before .pass .ensures)
     (advance-left _ _ _ _ _ (place _ _ _ _ lent taken) (quiet .0) (quiet .1)
     ∙ enough _ _ _ _ _ _ lent taken (c .before .before .before .before .before .before .before .before .before .before .before .before .before .before .before .before .before .if1 .left))
 
@@ -79,7 +79,7 @@ advance-spec =
     cast-pass
     pass-requires
     tell-nothing-requires
-    tell-made-requires
+    lay-word-requires
     same-length
     same-length-2
     same-length-3

@@ -11,8 +11,8 @@ load-requires c κs = search needs
 advance-requires : tie.Need-advance-requires
 advance-requires c κs = search needs
 
-tell-made-requires : tie.Need-tell-made-requires
-tell-made-requires c κs = search needs
+lay-word-requires : tie.Need-lay-word-requires
+lay-word-requires c κs = search needs
 
 settle-requires : tie.Need-settle-requires
 settle-requires c κs = search needs
@@ -31,7 +31,7 @@ same-length-4 c = search needs
 
 returns : tie.Need-returns
 unfolding advancedOf
-returns c = rw (c .before .before .before .before .before .before .before .before .before .before .before .before .tell-made .ensures, c .before .before .before .before .before .before .settle .ensures, c .before .before .before .before .before .before .before .before .before .before .before .before .before .before .before .advance .ensures, c .before .before .before .before .before .before .before .before .before .before .before .before .before .before .before .before .load .ensures)
+returns c = rw (c .before .before .before .before .before .before .before .before .before .before .before .before .lay-word .ensures, c .before .before .before .before .before .before .settle .ensures, c .before .before .before .before .before .before .before .before .before .before .before .before .before .before .before .advance .ensures, c .before .before .before .before .before .before .before .before .before .before .before .before .before .before .before .before .load .ensures)
 
 pub count-ticks-spec : {M : Type 1} → statement M
 count-ticks-spec =
@@ -39,7 +39,7 @@ count-ticks-spec =
     (tie.spec
     load-requires
     advance-requires
-    tell-made-requires
+    lay-word-requires
     settle-requires
     same-length
     same-length-2

@@ -31,8 +31,8 @@ pass-links-requires c κs = search needs
 tell-nothing-requires : tie.Need-tell-nothing-requires
 tell-nothing-requires c κs = search needs
 
-lay-made-requires : tie.Need-lay-made-requires
-lay-made-requires c κs = search needs
+lay-word-requires : tie.Need-lay-word-requires
+lay-word-requires c κs = search needs
 
 same-length : tie.Need-same-length
 same-length c = search needs
@@ -55,7 +55,7 @@ returns c =
     (c .before .before .before .before .before .before .before .before .before .before .before .before .before .before .pass-head .ensures)
     (c .before .before .before .before .before .before .before .before .before .before .pass-links .ensures)
     (c .before .before .before .before .before .before .tell-nothing .ensures)
-    (c .before .before .lay-made .ensures)
+    (c .before .before .lay-word .ensures)
     (rw (← l .before .is-lent .ensures) (l .if1 .taken))
 
 advanced-requires : tie.Need-advanced-requires
@@ -96,7 +96,7 @@ advance-spec =
     pass-head-requires
     pass-links-requires
     tell-nothing-requires
-    lay-made-requires
+    lay-word-requires
     same-length
     same-length-2
     same-length-3

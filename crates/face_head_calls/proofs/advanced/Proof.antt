@@ -8,8 +8,8 @@ use Rattle.face_head_calls.proofs.advanced.Tie as tie
 answered-requires : tie.Need-answered-requires
 answered-requires c κs = search needs
 
-lay-made-requires : tie.Need-lay-made-requires
-lay-made-requires c κs = search needs
+lay-word-requires : tie.Need-lay-word-requires
+lay-word-requires c κs = search needs
 
 tell-requires : tie.Need-tell-requires
 tell-requires c κs = search needs
@@ -35,14 +35,14 @@ returns c =
     advanced-whole (a .n) (a .head .now) (a .links .now) (a .out .now) (a .reply .now) (a .made .now) _ _ _ _ _ _ _
     (c .before .before .before .before .before .before .before .before .before .before .before .before .before .before .answered .ensures)
     (c .before .before .tell .ensures)
-    (c .before .before .before .before .before .before .lay-made .ensures)
+    (c .before .before .before .before .before .before .lay-word .ensures)
 
 pub advanced-spec : {M : Type 1} → statement M
 advanced-spec =
     tie.close
     (tie.spec
     answered-requires
-    lay-made-requires
+    lay-word-requires
     tell-requires
     same-length
     same-length-2
