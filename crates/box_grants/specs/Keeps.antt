@@ -22,7 +22,7 @@ use Rattle.box_grants.specs.declared.Chosen.the-variants.{Nothing, Due}
 use Rattle.box_grants.specs.declared.GrantList.{GrantList}
 
 -- what is in the list
-same-is : (a b : Entry) → same a b ≡ true → a ≡ b
+pub same-is : (a b : Entry) → same a b ≡ true → a ≡ b
 same-is a b h =
     let p = and-eq-true-iff (eqb (a .start .0) (b .start .0)) (eqb (a .length .0) (b .length .0)) .0 h in
     let s = eqb-true (a .start .0) (b .start .0) (p .0) in

@@ -99,7 +99,7 @@ nearest-held now e (x ∷ l) k h sub =
 pub nearest-in : (now : ℕ) (e : Entry) (l : List Entry) → holds (nearest now e l) (e ∷ l) ≡ true
 nearest-in now e l = nearest-held now e l (e ∷ l) (rw (same-self e)) (λ x p. rw p (or-true (same x e)))
 
-remove-fewer : (e : Entry) (l : List Entry) → holds e l ≡ true → suc (length (remove e l)) ≡ length l
+pub remove-fewer : (e : Entry) (l : List Entry) → holds e l ≡ true → suc (length (remove e l)) ≡ length l
 remove-fewer e [] h = absurd (false≢true h)
 remove-fewer e (x ∷ l) h =
     either (λ (r : List Entry). suc (length r) ≡ suc (length l)) (same e x) _ _

@@ -2,4 +2,5 @@ pub mod Activation
 pub mod Keeps
 pub mod Laws
 pub mod Listed
+pub mod Nearest
 pub mod Sound

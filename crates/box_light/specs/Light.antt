@@ -31,6 +31,17 @@ atRest (Due t entry sync) = false
 atRest (Lit t length sync) = false
 atRest (Open t) = false
 
+-- laser on: while it settles, and while transmission is enabled; else dark
+abbrev pub isOn : Light → Bool
+isOn Rest = false
+isOn (Before t random sync) = false
+isOn (Random t sync) = false
+isOn (Warming t) = true
+isOn (Asking t) = true
+isOn (Due t entry sync) = false
+isOn (Lit t length sync) = true
+isOn (Open t) = true
+
 abbrev pub timerOf : Light → Timer
 timerOf Rest = record { left = 0 }
 timerOf (Before t random sync) = t

@@ -11,12 +11,12 @@ use Rattle.box_calls.specs.declared.FloorBox.{FloorBox}
 use Rattle.box_laws.specs.Calls.{Call, answer, tests, step, drift, Outcome, unsound, refuses, accepts}
 use Rattle.box_laws.specs.Frames.{CallTyped, countAfter, step-sends, count-below, call-frames}
 use Rattle.box_laws.specs.Steady.{call-steady}
+use Rattle.box_laws.proofs.Activated.{activate-leaves}
 use Rattle.pair_wire.specs.Restarts.{upRestarts}
 use Rattle.pair_demand.specs.Run.{HasRegistered}
 use Rattle.pair_demand.specs.Laws.{Step}
 use Rattle.pair_demand.proofs.Steps.{same}
 use Rattle.pair_box.specs.End.{told, BoxEnd}
-use Rattle.pair_box.proofs.Activated.{activate-leaves}
 use Rattle.pair_box.proofs.Gauge.{Ok, gauge}
 use Rattle.pair_box.proofs.Moves.{Moves, MovedBy}
 use Rattle.pair_box.proofs.Silent.{mute-frames}

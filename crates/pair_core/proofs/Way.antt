@@ -15,12 +15,12 @@ use Rattle.box_processes.specs.declared.Processes.{Processes}
 use Rattle.box_calls.specs.Box.{freshOf}
 use Rattle.box_calls.specs.declared.Answer.{Answer}
 use Rattle.box_calls.specs.declared.FloorBox.{FloorBox}
+use Rattle.box_laws.proofs.Activated.{activate-leaves}
 use Rattle.head_state.specs.Head.{begun}
 use Rattle.head_state.specs.declared.Head.{Head}
 use Rattle.pair_demand.specs.Run as run
 use Rattle.pair_demand.specs.Run.{head-call, box-call, box-hears, both-tick, Start}
 use Rattle.pair_box.specs.End.{register, stateOf, EndThat}
-use Rattle.pair_box.proofs.Activated.{activate-leaves}
 use Rattle.pair_box.proofs.Exact.{AskingFor, tick-done}
 use Rattle.pair_head.specs.End.{asks, asked}
 use Rattle.pair_head.proofs.Exact.{ready-tick}

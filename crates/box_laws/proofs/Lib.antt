@@ -1,0 +1,2 @@
+pub mod Activated
+pub mod Discovery
