@@ -32,16 +32,13 @@ static void told(void)
 // All the quanta that have passed are made, and what is handed out on the way is looked at when it is.
 static uint8_t pass(uint64_t quanta)
 {
-    while (quanta > 0) {
-        uint64_t ticks = quanta < CRUSTNEWT_MOST_TICKS ? quanta : CRUSTNEWT_MOST_TICKS, made;
-        uint8_t number = crustnewt_box_advance(ticks, LENT, &made, 1);
+    uint8_t number = CRUSTNEWT_DONE;
 
-        if (number != CRUSTNEWT_DONE)
-            return number;
+    for (uint64_t made = 0; quanta > 0 && number == CRUSTNEWT_DONE; quanta -= made) {
+        number = crustnewt_box_advance(quanta < CRUSTNEWT_MOST_TICKS ? quanta : CRUSTNEWT_MOST_TICKS, LENT, &made, 1);
         told();
-        quanta -= made;
     }
-    return CRUSTNEWT_DONE;
+    return number;
 }
 
 // While the transmitter is at rest the millisecond will do: what is handed out waits for a window anyway.
@@ -52,7 +49,7 @@ static uint64_t leisure(void)
     return crustnewt_box_ticks_until(box, CRUSTNEWT_BOX_WORDS) + 1;
 }
 
-// At first, and whenever the box has left. In WAIT the call is always done; nothing that waits is of use to a newcomer.
+// At first, and whenever the box has left: in WAIT the call is always done. To a newcomer nothing that waits is of use.
 static void join(void)
 {
     if (box[CRUSTNEWT_BOX_STATE] == CRUSTNEWT_BOX_STATE_WAIT)

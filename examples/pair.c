@@ -1,5 +1,6 @@
 /* A head and a floor box in one program, with a fibre of 50 quanta between them: the box registers, sends in the grant that it is given, and
- * both clients hear of it. Prints what happens in which quantum; examples/pair.txt has it, worked out by hand. */
+ * both clients hear of it; then the head drops it, and it registers again. Prints what happens in which quantum; examples/pair.txt has it,
+ * worked out by hand. */
 #include <inttypes.h>
 #include <stdarg.h>
 #include <stdio.h>
@@ -12,7 +13,9 @@
 #define DELAY 50        /* quanta from end to end of the fibre */
 #define FRAME_QUANTA 42 /* that a frame takes to send */
 #define QUEUE 8
-#define QUANTA 800
+#define DROP 800        /* the quantum in which the head drops the box */
+#define WINDOWS 1000    /* quanta from one discovery window to the next */
+#define QUANTA 1800
 
 static const uint64_t head_address = 0x020000000001, box_address = 0x020000000031;
 
@@ -127,19 +130,57 @@ static void box_told(uint8_t number)
     }
 }
 
-/* The head's client: it admits whoever asks, and grants it 200 quanta, 220 from now. */
-static void admit(void)
+/* The place of the link that a box holds, from 1; 0 where it holds none. */
+static size_t link_of(uint64_t address)
 {
-    uint64_t grant = (head[CRUSTNEWT_HEAD_COUNT] + 220) << 32 | 200;
-
-    head_told(crustnewt_head_admit(box_address, 16, 10, HEAD_ALL));
-    head_told(crustnewt_head_gate(1, &grant, 1, 0, HEAD_ALL));
+    for (size_t place = 0; place < LINKS; place++)
+        if (links[place * CRUSTNEWT_LINK_WORDS + CRUSTNEWT_LINK_ADDRESS] == address)
+            return place + 1;
+    return 0;
 }
 
-/* Hands over what has arrived. A box that asks to register comes on link 0; on a real fibre the preamble's tag tells the link. */
+/* Under which link the head hears a message: a box that asks to register comes on none. On a real fibre the preamble's tag tells it. */
+static size_t link_under(const uint64_t *message)
+{
+    if (message[CRUSTNEWT_MESSAGE_KIND] == CRUSTNEWT_MESSAGE_REGISTER_REQ && message[CRUSTNEWT_MESSAGE_BODY] == 1)
+        return 0;
+    return link_of(message[CRUSTNEWT_MESSAGE_SOURCE]);
+}
+
+/* The head's client admits whoever asks, and grants it 200 quanta, 220 from now. */
+static void admit(const uint64_t *request)
+{
+    uint64_t address = request[CRUSTNEWT_MESSAGE_SOURCE], grant = (head[CRUSTNEWT_HEAD_COUNT] + 220) << 32 | 200;
+
+    head_told(crustnewt_head_admit(address, (uint8_t)request[CRUSTNEWT_MESSAGE_BODY + 1], 10, HEAD_ALL));
+    head_told(crustnewt_head_gate(link_of(address), &grant, 1, 0, HEAD_ALL));
+}
+
+/* What it does by itself. */
+static void lead(void)
+{
+    if (quantum % WINDOWS == 0)
+        head_told(crustnewt_head_open((uint32_t)head[CRUSTNEWT_HEAD_COUNT] + 100, 174, 0, 400, HEAD_ALL));
+    if (quantum == DROP)
+        head_told(crustnewt_head_deregister(link_of(box_address), HEAD_ALL));
+}
+
+/* The box's client asks to register at first, and whenever the box has left. Nothing that waits is of use to a newcomer. */
+static void join(void)
+{
+    if (box[CRUSTNEWT_BOX_STATE] == CRUSTNEWT_BOX_STATE_WAIT) {
+        say("box", "its client asks to register");
+        done(crustnewt_box_register(BOX_ALL));
+    }
+    if (box[CRUSTNEWT_BOX_STATE] == CRUSTNEWT_BOX_STATE_REGISTERING)
+        waiting.length = 0;
+}
+
+/* Hands over what has arrived. */
 static void deliver(void)
 {
     uint8_t frame[CRUSTNEWT_FRAME_OCTETS];
+    uint64_t message[CRUSTNEWT_MESSAGE_WORDS];
 
     while (take(&down, frame)) {
         uint8_t number = crustnewt_box_hear(frame, sizeof frame, 250, BOX_ALL);
@@ -148,11 +189,10 @@ static void deliver(void)
         box_told(number);
     }
     while (take(&up, frame)) {
-        size_t link = links[CRUSTNEWT_LINK_STATE] == CRUSTNEWT_LINK_STATE_IDLE ? 0 : 1;
-
         say("head", "hears %s", kind(frame));
-        if (head_told(crustnewt_head_hear(link, frame, sizeof frame, HEAD_ALL)) == CRUSTNEWT_HEAD_NOTICE_REQUEST)
-            admit();
+        done(crustnewt_read(frame, sizeof frame, message, CRUSTNEWT_MESSAGE_WORDS));
+        if (head_told(crustnewt_head_hear(link_under(message), frame, sizeof frame, HEAD_ALL)) == CRUSTNEWT_HEAD_NOTICE_REQUEST)
+            admit(message);
     }
 }
 
@@ -178,9 +218,10 @@ int main(void)
 
     done(crustnewt_head_fresh(head_address, HEAD, head_reply, CRUSTNEWT_HEAD_REPLY_WORDS));
     done(crustnewt_box_fresh(box_address, BOX_ALL));
-    box_told(crustnewt_box_register(BOX_ALL));
-    head_told(crustnewt_head_open(100, 174, 0, 400, HEAD_ALL));
-    for (quantum = 1; quantum <= QUANTA; quantum++) {
+    while (quantum < QUANTA) {
+        join();
+        lead();
+        quantum++;
         head_told(crustnewt_head_tick(HEAD_ALL));
         box_told(crustnewt_box_tick(BOX_ALL));
         deliver();

@@ -1,38 +1,53 @@
 /* crustnewt: registration in an Ethernet passive optical network, the head (OLT) and the floor box (ONU), and their control frames.
  *
- * Proved code behind a plain C face. What a call does is document 01, "The build and its rules"; this header says how to call it.
+ * Proved code behind a plain C face. This header says how to call it and, under DUTIES, what is left to you; docs/RULES.md of the project
+ * says what each call does. A worked example stands at the end.
  *
- * MEMORY. The library allocates nothing, keeps nothing between calls and calls nothing outside itself. All memory is the caller's:
- * each call borrows it while it runs and holds no pointer afterwards. A box is a block of CRUSTNEWT_BOX_WORDS words; a head is a
- * block of CRUSTNEWT_HEAD_WORDS words and, beside it, its table, CRUSTNEWT_LINK_WORDS words for each of 1 to 64 links. Copy the
- * words and you have copied the box or the head. Calls on different blocks may run at the same time, in threads or in interrupts;
- * two calls on one block may not. No pointer may be null, not even with a length of 0, and no two arguments of a call may overlap,
- * unless both are only read (const). Words are aligned as uint64_t.
+ * MEMORY. The library allocates nothing, keeps nothing between calls and calls nothing but memcpy and memset. All memory is the caller's:
+ * a call borrows it while it runs and holds no pointer afterwards. A box is a block of CRUSTNEWT_BOX_WORDS words; a head is a block of
+ * CRUSTNEWT_HEAD_WORDS words and, beside it, its table, CRUSTNEWT_LINK_WORDS words for each of 1 to 64 links. Copy the words and you have
+ * copied the box or the head. Calls on different blocks may run at the same time, in threads or in interrupts; two calls on one block may
+ * not. No pointer may be null, not even with a length of 0, and no two arguments of a call may overlap, unless both are only read (const).
+ * Words are aligned as uint64_t. A call takes at most CRUSTNEWT_BOX_STACK_OCTETS or CRUSTNEWT_HEAD_STACK_OCTETS of stack. For now there
+ * is code for x86-64 only: System V calls, with SSE2 and the red zone.
  *
- * LENGTHS. Every pointer is followed by the number of its elements: octets of a uint8_t *, words of a uint64_t *. Each length is
- * judged. A block or a reply that is too short is answered CRUSTNEWT_SHORT and nothing is touched; one that is longer is fine. What a
- * call has no use for stays as it was: words behind the block, behind the last whole link of a table and behind the last notice of a
- * reply, and octets that no frame takes.
+ * LENGTHS. Every pointer is followed by the number of its elements: octets of a uint8_t *, words of a uint64_t *. Each length is judged. A
+ * block or a reply that is too short is answered CRUSTNEWT_SHORT; one that is longer is fine. What a call has no use for stays as it was:
+ * words behind the block, behind the last whole link of a table and behind the last notice of a reply, and octets that no frame takes.
  *
- * NUMBERS. A call returns a number of the service card below. Any number but CRUSTNEWT_DONE is a refusal: block, table, frames and
- * output stay as they were, and the reply says 0 frames, 0 notices and a drift of 0 (after CRUSTNEWT_SHORT it stays as it was too). One
- * refusal alone writes a state: with CRUSTNEWT_RANGE, crustnewt_box_fresh and crustnewt_head_fresh leave a block of zeros, which has
- * address zero and isn't sound; the table stays as it was even then.
+ * NUMBERS. A call answers a number of the service card. Any but CRUSTNEWT_DONE is a refusal: block, table, frames and output stay as they
+ * were; told are 0 frames, 0 notices, a drift of 0 and 0 ticks made. Three things differ from that. CRUSTNEWT_SHORT tells nothing either:
+ * all that was lent stays. A crustnewt_box_fresh or crustnewt_head_fresh that answers CRUSTNEWT_RANGE leaves a block of zeros, which isn't
+ * sound; the table stays. A refused crustnewt_read leaves an empty REPORT with every field 0, a refused crustnewt_write sixty zeros. Beside
+ * each call stand the numbers that it can answer, but for CRUSTNEWT_SHORT, CRUSTNEWT_UNSOUND and, at the head, CRUSTNEWT_OUTPUT.
  *
- * STATES. Read the words of a block and a table as you like, and let only the library write them, but to hand in a state that was
- * stored. Each state has one block of words: what the state or the phase at hand doesn't hold is 0, and so is what stands behind the
- * last grant of a box's list. Words that are no state's (one of these isn't 0, a state or a phase is unknown, a port has more than 16
- * bits, a count, a time or a length more than 32) are answered CRUSTNEWT_UNSOUND, and so are those of a state that isn't sound. A state
- * that an earlier library left is such a block, and is taken.
+ * STATES. Read the words of a block and a table as you like; write none but to hand in a state that was stored, by this library or an
+ * earlier one. An address has 48 bits, the first octet on the wire highest; a count is the 32-bit counter, in quanta; a timer is the ticks
+ * left, 0 when it is stopped; a grant is its start in the upper 32 bits and its length below. Each state has one block of words: what the
+ * state or the phase at hand doesn't hold is 0, and so is what stands behind the last grant of a box's list. Words that are no state's (one
+ * of these isn't 0, a state or a phase is unknown, a port has more than 16 bits, a count, a time or a length more than 32) are answered
+ * CRUSTNEWT_UNSOUND, and so are those of a state that isn't sound. Words that are stored as octets are in the machine's octet order: only
+ * a machine of the same order may take them back.
  *
- * TIME. A quantum is 16 bit times, 16 ns at 1 Gbit/s. Head and box have no clock: tell them how many quanta have passed, whenever
- * you come to it, by crustnewt_head_advance and crustnewt_box_advance. An advance is so many single ticks in one call, up to
- * CRUSTNEWT_MOST_TICKS, but stops after the first that hands out a frame or a notice: see to it, and go on with the rest. Where nothing
- * happens, a timer of 1 ms (62,500 quanta) costs a call each. Every other call is made at the count that the block stands at: advance to
- * the moment when a frame came or a client asked, then make the call. To wake up in time, ask crustnewt_head_ticks_until and
- * crustnewt_box_ticks_until: during so many ticks nothing is handed out, nothing is refused and a box's laser stays as it is; whatever
- * comes next comes with the tick after them, or later. A frame bears the count of its own tick, and a head's sets the counts of its
- * boxes, so a head wakes up for its frames. A worked example stands at the end.
+ * TIME. A quantum is 16 bit times, 16 ns at 1 Gbit/s. No core makes a call in each of them: a tick with nothing to do takes some 14 ns of a
+ * box and 330 of a head with 64 links, other calls take more. None has to. Head and box have no clock: tell them how many quanta have
+ * passed, whenever you come to it, by crustnewt_head_advance and crustnewt_box_advance. An advance is so many single ticks in one call, but
+ * stops after the first that hands out a frame or a notice: see to it, and go on with the rest. Where nothing happens, a timer of 1 ms
+ * (62,500 quanta) costs a call each. Every other call is made at the count that the block stands at: advance to the moment when a frame
+ * came or a client asked, then make the call. To wake up in time, ask crustnewt_head_ticks_until and crustnewt_box_ticks_until: during so
+ * many ticks nothing is handed out, nothing is refused and a box's laser stays as it is; whatever comes next comes with the tick after
+ * them, or later. A frame bears the count of its own tick, and a head's sets the counts of its boxes, so a head wakes up for its frames.
+ *
+ * DUTIES. What no call does for you:
+ *   - Register again. The notices deregistered and refused say that a box is in WAIT, where it stays until crustnewt_box_register. After
+ *     retry it is REGISTERING by itself.
+ *   - Empty the queue. What a box hands out waits until crustnewt_box_next_to_send lets it go. At each of these three notices throw away all
+ *     control frames that wait, with those of that very call: the box is dark, and its next window has room for a new REGISTER_REQ alone.
+ *     An old one that was sent there instead gave the head a round trip of 3,750,549 for 123.
+ *   - Send in time. That window is as long as that frame: ask crustnewt_box_next_to_send in the quantum in which it is handed out. What has
+ *     waited for 3,125,000 quanta is too old, so throw it away: a box without grants hands out a REPORT as often all the same.
+ *   - Name the link on which the head hears a frame: crustnewt_head_hear says which that is.
+ *   - Tell head and box of every quantum. That no half-open pair lasts rests on timers that run at one rate.
  */
 #ifndef CRUSTNEWT_H
 #define CRUSTNEWT_H
@@ -57,11 +72,12 @@ extern "C" {
 #define CRUSTNEWT_HEAD_REPLY_WORDS 5
 #define CRUSTNEWT_MADE_WORDS 1 /* for the number of ticks that an advance made */
 
-/* Most ticks of one advance. */
-#define CRUSTNEWT_MOST_TICKS 65536
+#define CRUSTNEWT_MOST_TICKS 65536       /* of one advance */
+#define CRUSTNEWT_BOX_STACK_OCTETS 6144  /* that a call takes, with its arguments: measured (examples/stack.c) and rounded up */
+#define CRUSTNEWT_HEAD_STACK_OCTETS 5120
 
-/* The service card. Reading tests 1, 2, 3, 4, writing only 4. A call of the box or the head tests 13, 12, 5, 6, 7, 8, 4, 9, 10, 11
- * and last 14, each where it applies; one that hears a frame reads it first. */
+/* The service card. A call answers the first test that isn't passed: reading 1, 2, 3, 4 and writing 4 alone; box and head 13 and 12, then
+ * 5, 6, 7, 8, 4, 9, 10, 11, and 14 at the end, each where it applies. To hear a frame is to read it first. */
 enum crustnewt_number {
     CRUSTNEWT_DONE = 0,       /* done */
     CRUSTNEWT_SIZE = 1,       /* the frame isn't 60 octets */
@@ -69,34 +85,34 @@ enum crustnewt_number {
     CRUSTNEWT_OPCODE = 3,     /* the opcode isn't 2 to 6 */
     CRUSTNEWT_RANGE = 4,      /* a field or an address is outside its range */
     CRUSTNEWT_DIRECTION = 5,  /* the message goes the other way */
-    CRUSTNEWT_LINK = 6,       /* link number not allowed here, above the table, or idle */
+    CRUSTNEWT_LINK = 6,       /* the call can't be about this link: not here, not in the table, or idle */
     CRUSTNEWT_STATE = 7,      /* not in this state */
     CRUSTNEWT_PARTY = 8,      /* not this party's address */
-    CRUSTNEWT_GRANT = 9,      /* start, length or number of grants outside its range, or a number of ticks outside 1 to 65,536 */
+    CRUSTNEWT_GRANT = 9,      /* a window or a GATE that can't be asked for, or not 1 to 65,536 ticks */
     CRUSTNEWT_HELD = 10,      /* the address already holds a link */
     CRUSTNEWT_FULL = 11,      /* every link is held */
     CRUSTNEWT_OUTPUT = 12,    /* output shorter than 60 octets a link */
     CRUSTNEWT_UNSOUND = 13,   /* unsound state or table, or not 1 to 64 links */
     CRUSTNEWT_WINDOW = 14,    /* a discovery window opens on a box that isn't REGISTERING */
-    CRUSTNEWT_SHORT = 100     /* not of the card: too little memory was lent, nothing was touched */
+    CRUSTNEWT_SHORT = 100     /* not of the card: too little memory was lent */
 };
 
-/* The words of a box's block. A timer is the ticks left, 0 when it is stopped. */
+/* The words of a box's block. */
 enum crustnewt_box_word {
-    CRUSTNEWT_BOX_ADDRESS = 0,     /* 48 bits, the first octet on the wire highest */
-    CRUSTNEWT_BOX_COUNT = 1,       /* the 32-bit counter, in quanta */
+    CRUSTNEWT_BOX_ADDRESS = 0,
+    CRUSTNEWT_BOX_COUNT = 1,
     CRUSTNEWT_BOX_STATE = 2,       /* enum crustnewt_box_state */
-    CRUSTNEWT_BOX_WAIT = 3,        /* wait for REGISTER */
-    CRUSTNEWT_BOX_WATCHDOG = 4,    /* omp_timer */
-    CRUSTNEWT_BOX_REPORT = 5,      /* periodic REPORT */
+    CRUSTNEWT_BOX_WAIT = 3,        /* timer: wait for REGISTER */
+    CRUSTNEWT_BOX_WATCHDOG = 4,    /* timer: omp_timer */
+    CRUSTNEWT_BOX_REPORT = 5,      /* timer: periodic REPORT */
     CRUSTNEWT_BOX_PORT = 6,        /* the port that a REGISTER gave, 16 bits */
     CRUSTNEWT_BOX_SYNC = 7,        /* the sync time that a REGISTER gave, 16 bits */
     CRUSTNEWT_BOX_LIGHT = 8,       /* the transmitter: enum crustnewt_box_light */
     CRUSTNEWT_BOX_LIGHT_LEFT = 9,  /* its timer */
-    CRUSTNEWT_BOX_LIGHT_GRANT = 10, /* BEFORE: the random wait to come; DUE: the grant, as in the list; LIT: its length */
+    CRUSTNEWT_BOX_LIGHT_GRANT = 10, /* BEFORE: the random wait to come; DUE: the grant; LIT: its length */
     CRUSTNEWT_BOX_LIGHT_SYNC = 11, /* BEFORE, RANDOM, DUE, LIT: the sync held */
     CRUSTNEWT_BOX_GRANTS = 12,     /* how many grants the list holds, 0 to 16 */
-    CRUSTNEWT_BOX_LIST = 13        /* the first of sixteen places for grants, in order of arrival: start in the upper 32 bits, length below */
+    CRUSTNEWT_BOX_LIST = 13        /* the first of sixteen places for grants, in order of arrival */
 };
 
 enum crustnewt_box_state {
@@ -111,10 +127,10 @@ enum crustnewt_box_light {
     CRUSTNEWT_BOX_LIGHT_BEFORE = 1,  /* waits for a discovery grant's start */
     CRUSTNEWT_BOX_LIGHT_RANDOM = 2,  /* in the random wait */
     CRUSTNEWT_BOX_LIGHT_WARMING = 3, /* discovery: laser on */
-    CRUSTNEWT_BOX_LIGHT_ASKING = 4,  /* discovery: transmission enabled */
+    CRUSTNEWT_BOX_LIGHT_ASKING = 4,  /* discovery: laser on, transmission enabled */
     CRUSTNEWT_BOX_LIGHT_DUE = 5,     /* waits for a normal grant's start */
     CRUSTNEWT_BOX_LIGHT_LIT = 6,     /* a normal grant: laser on */
-    CRUSTNEWT_BOX_LIGHT_OPEN = 7     /* a normal grant: transmission enabled */
+    CRUSTNEWT_BOX_LIGHT_OPEN = 7     /* a normal grant: laser on, transmission enabled */
 };
 
 /* The words that a call of the box tells. */
@@ -127,22 +143,22 @@ enum crustnewt_box_reply_word {
 };
 
 enum crustnewt_box_notice {
-    CRUSTNEWT_BOX_NOTICE_WINDOW = 1,
+    CRUSTNEWT_BOX_NOTICE_WINDOW = 1,       /* discovery: transmission is enabled for the REGISTER_REQ handed out */
     CRUSTNEWT_BOX_NOTICE_REGISTERED = 2,
-    CRUSTNEWT_BOX_NOTICE_REFUSED = 3,
-    CRUSTNEWT_BOX_NOTICE_RETRY = 4,
-    CRUSTNEWT_BOX_NOTICE_DEREGISTERED = 5,
-    CRUSTNEWT_BOX_NOTICE_GRANT = 6,
-    CRUSTNEWT_BOX_NOTICE_OPEN = 7,
-    CRUSTNEWT_BOX_NOTICE_CLOSE = 8
+    CRUSTNEWT_BOX_NOTICE_REFUSED = 3,      /* by the head; the box is in WAIT */
+    CRUSTNEWT_BOX_NOTICE_RETRY = 4,        /* no REGISTER came; the box is REGISTERING */
+    CRUSTNEWT_BOX_NOTICE_DEREGISTERED = 5, /* by head, client or watchdog; the box is in WAIT */
+    CRUSTNEWT_BOX_NOTICE_GRANT = 6,        /* taken into the list */
+    CRUSTNEWT_BOX_NOTICE_OPEN = 7,         /* a normal grant: transmission is enabled */
+    CRUSTNEWT_BOX_NOTICE_CLOSE = 8         /* and over */
 };
 
 /* The calls of the box. */
 
 /* A box that has not begun: count 0, WAIT, dark, no grants. Whatever the block held is gone. CRUSTNEWT_RANGE for an address that is
- * zero, a group's or above 48 bits; NUMBERS says what the block then holds. */
-uint8_t crustnewt_box_fresh(uint64_t address, uint64_t *block, size_t block_words, uint8_t *frames, size_t frames_octets,
-                            uint64_t *reply, size_t reply_words);
+ * zero, a group's or above 48 bits. */
+uint8_t crustnewt_box_fresh(uint64_t address, uint64_t *block, size_t block_words, uint8_t *frames, size_t frames_octets, uint64_t *reply,
+                            size_t reply_words);
 
 /* The client asks to register: CRUSTNEWT_STATE unless the box is in WAIT. */
 uint8_t crustnewt_box_register(uint64_t *block, size_t block_words, uint8_t *frames, size_t frames_octets, uint64_t *reply,
@@ -153,36 +169,33 @@ uint8_t crustnewt_box_deregister(uint64_t *block, size_t block_words, uint8_t *f
                                  size_t reply_words);
 
 /* A frame came: its octets from the destination address on, without check sequence. `random` is any random number; it sets the
- * random wait of a discovery GATE. */
+ * random wait of a discovery GATE. First the numbers of crustnewt_read; CRUSTNEWT_DIRECTION, CRUSTNEWT_PARTY. */
 uint8_t crustnewt_box_hear(const uint8_t *octets, size_t octets_length, uint32_t random, uint64_t *block, size_t block_words,
                            uint8_t *frames, size_t frames_octets, uint64_t *reply, size_t reply_words);
 
-/* One quantum has passed. */
-uint8_t crustnewt_box_tick(uint64_t *block, size_t block_words, uint8_t *frames, size_t frames_octets, uint64_t *reply,
-                           size_t reply_words);
+/* One quantum has passed. CRUSTNEWT_WINDOW, but never of a box that began with crustnewt_box_fresh. */
+uint8_t crustnewt_box_tick(uint64_t *block, size_t block_words, uint8_t *frames, size_t frames_octets, uint64_t *reply, size_t reply_words);
 
 /* So many quanta have passed, 1 to CRUSTNEWT_MOST_TICKS: that many single ticks, but none behind one that hands out a frame or a
- * notice, and none that would be refused. Frames and reply are those of the last tick made, and `made` says how many were made: at
- * least 1 when done. CRUSTNEWT_GRANT for another number; CRUSTNEWT_WINDOW only if the very first tick would be refused. A
- * refusal has made none, and says 0; after CRUSTNEWT_SHORT `made` stays as it was. */
-uint8_t crustnewt_box_advance(uint64_t ticks, uint64_t *block, size_t block_words, uint8_t *frames, size_t frames_octets,
-                              uint64_t *reply, size_t reply_words, uint64_t *made, size_t made_words);
+ * notice, and none that would be refused. Frames and reply are those of the last tick made, and `made` says how many were made, at least
+ * one. CRUSTNEWT_GRANT for another number of ticks; CRUSTNEWT_WINDOW only if the very first would be refused. */
+uint8_t crustnewt_box_advance(uint64_t ticks, uint64_t *block, size_t block_words, uint8_t *frames, size_t frames_octets, uint64_t *reply,
+                              size_t reply_words, uint64_t *made, size_t made_words);
 
 /* How many ticks from now are sure to be done and to hand out nothing, 0 to CRUSTNEWT_MOST_TICKS: those before the next end of a timer,
- * which may pass in silence too, and none where the next tick chooses a grant. Nothing is refused: the answer for a state that isn't
- * sound, for words that are no state's and for a short block is 0. */
+ * which may pass in silence too, and none where the next tick chooses a grant. No number of the card: what isn't sound or is short has 0. */
 uint64_t crustnewt_box_ticks_until(const uint64_t *block, size_t block_words);
 
 /* Which of a waiting control frame and a waiting data frame goes next: 0 neither, 1 the control frame, 2 the data frame. A length
- * of 0 says that none waits; of the octets only the lengths are looked at. Soundness isn't judged: nothing is refused but a short
- * block, and the answer for words that are no state's is 0. */
+ * of 0 says that none waits; of the octets only the lengths are looked at. CRUSTNEWT_SHORT alone is refused: soundness isn't judged, and
+ * words that are no state's have 0. */
 uint8_t crustnewt_box_next_to_send(const uint64_t *block, size_t block_words, const uint8_t *control, size_t control_octets,
                                    const uint8_t *data, size_t data_octets);
 
 /* The words of a head's block, and of each link of its table: link 1 first, each behind the one before. */
 enum crustnewt_head_word {
-    CRUSTNEWT_HEAD_ADDRESS = 0,       /* 48 bits, the first octet on the wire highest */
-    CRUSTNEWT_HEAD_COUNT = 1,         /* the 32-bit counter, in quanta */
+    CRUSTNEWT_HEAD_ADDRESS = 0,
+    CRUSTNEWT_HEAD_COUNT = 1,
     CRUSTNEWT_HEAD_WINDOW = 2,        /* the discovery window: enum crustnewt_head_window */
     CRUSTNEWT_HEAD_WINDOW_LEFT = 3,   /* BEFORE, INSIDE: its timer */
     CRUSTNEWT_HEAD_WINDOW_LENGTH = 4  /* BEFORE: how long it will be open */
@@ -197,9 +210,9 @@ enum crustnewt_head_window {
 enum crustnewt_link_word {
     CRUSTNEWT_LINK_ADDRESS = 0,  /* of the box that holds it; 0 when it is idle */
     CRUSTNEWT_LINK_STATE = 1,    /* enum crustnewt_link_state */
-    CRUSTNEWT_LINK_WAIT = 2,     /* wait for REGISTER_ACK */
-    CRUSTNEWT_LINK_WATCHDOG = 3, /* omp_timer */
-    CRUSTNEWT_LINK_PERIODIC = 4  /* periodic GATE */
+    CRUSTNEWT_LINK_WAIT = 2,     /* timer: wait for REGISTER_ACK */
+    CRUSTNEWT_LINK_WATCHDOG = 3, /* timer: omp_timer */
+    CRUSTNEWT_LINK_PERIODIC = 4  /* timer: periodic GATE */
 };
 
 enum crustnewt_link_state {
@@ -218,80 +231,75 @@ enum crustnewt_head_reply_word {
 };
 
 enum crustnewt_head_notice {
-    CRUSTNEWT_HEAD_NOTICE_REQUEST = 1,
+    CRUSTNEWT_HEAD_NOTICE_REQUEST = 1,    /* a box asks to register: source and pending of the frame are for admit or reject */
     CRUSTNEWT_HEAD_NOTICE_REGISTERED = 2,
-    CRUSTNEWT_HEAD_NOTICE_DROPPED = 3,
+    CRUSTNEWT_HEAD_NOTICE_DROPPED = 3,    /* the box said that it leaves, or won't join */
     CRUSTNEWT_HEAD_NOTICE_REPORT = 4
 };
 
-/* The calls of the head. `links` is the table, of links_words / CRUSTNEWT_LINK_WORDS links; `output` needs CRUSTNEWT_FRAME_OCTETS for
- * each. */
+/* The calls of the head. `links` is the table, of links_words / CRUSTNEWT_LINK_WORDS links, numbered from 1; `output` needs
+ * CRUSTNEWT_FRAME_OCTETS for each, else CRUSTNEWT_OUTPUT. CRUSTNEWT_LINK for a link that is 0, above the table or idle. CRUSTNEWT_RANGE for
+ * an address that is zero, a group's or above 48 bits, and for a length or a sync time above 65,535. */
 
 /* A head that has not begun: count 0, window idle, every link idle. Whatever block and table held is gone. CRUSTNEWT_UNSOUND where not
- * 1 to 64 links are lent, then CRUSTNEWT_RANGE for an address that is zero, a group's or above 48 bits; NUMBERS says what the block
- * then holds. */
-uint8_t crustnewt_head_fresh(uint64_t address, uint64_t *head, size_t head_words, uint64_t *links, size_t links_words,
-                             uint64_t *reply, size_t reply_words);
+ * 1 to 64 links are lent, then CRUSTNEWT_RANGE. */
+uint8_t crustnewt_head_fresh(uint64_t address, uint64_t *head, size_t head_words, uint64_t *links, size_t links_words, uint64_t *reply,
+                             size_t reply_words);
 
-/* The client opens a discovery window: where the grant starts, its length, the sync time, how long the window is open. */
+/* The client opens a discovery window: where the grant starts, its length, the sync time, how long the window is open. CRUSTNEWT_STATE
+ * while there is one; CRUSTNEWT_RANGE; CRUSTNEWT_GRANT for a start that is past or more than 62,500,000 ahead, a length below
+ * 32 + sync + 42, a window of not 1 to 131,072. */
 uint8_t crustnewt_head_open(uint32_t start, uint32_t length, uint32_t sync, uint32_t window, uint64_t *head, size_t head_words,
-                            uint64_t *links, size_t links_words, uint8_t *output, size_t output_octets, uint64_t *reply,
-                            size_t reply_words);
+                            uint64_t *links, size_t links_words, uint8_t *output, size_t output_octets, uint64_t *reply, size_t reply_words);
 
-/* The client admits a box that asked: it takes the lowest idle link. */
+/* The client admits a box that asked: it takes the lowest idle link. CRUSTNEWT_RANGE, CRUSTNEWT_HELD, CRUSTNEWT_FULL. */
 uint8_t crustnewt_head_admit(uint64_t address, uint8_t pending, uint32_t sync, uint64_t *head, size_t head_words, uint64_t *links,
                              size_t links_words, uint8_t *output, size_t output_octets, uint64_t *reply, size_t reply_words);
 
-/* The client rejects a box that asked. */
-uint8_t crustnewt_head_reject(uint64_t address, uint8_t pending, uint32_t sync, uint64_t *head, size_t head_words,
-                              uint64_t *links, size_t links_words, uint8_t *output, size_t output_octets, uint64_t *reply,
-                              size_t reply_words);
+/* The client rejects a box that asked. CRUSTNEWT_RANGE. */
+uint8_t crustnewt_head_reject(uint64_t address, uint8_t pending, uint32_t sync, uint64_t *head, size_t head_words, uint64_t *links,
+                              size_t links_words, uint8_t *output, size_t output_octets, uint64_t *reply, size_t reply_words);
 
-/* The client has a registered box register anew. Links are numbered from 1. */
-uint8_t crustnewt_head_reregister(size_t link, uint32_t sync, uint64_t *head, size_t head_words, uint64_t *links,
-                                  size_t links_words, uint8_t *output, size_t output_octets, uint64_t *reply, size_t reply_words);
-
-/* The client drops a registered box. */
-uint8_t crustnewt_head_deregister(size_t link, uint64_t *head, size_t head_words, uint64_t *links, size_t links_words,
+/* The client has a registered box register anew. CRUSTNEWT_LINK; CRUSTNEWT_STATE where the link only waits; CRUSTNEWT_RANGE. */
+uint8_t crustnewt_head_reregister(size_t link, uint32_t sync, uint64_t *head, size_t head_words, uint64_t *links, size_t links_words,
                                   uint8_t *output, size_t output_octets, uint64_t *reply, size_t reply_words);
 
-/* The client sends a GATE of 0 to 4 grants, each a word: the start in the upper 32 bits, the length below. Bit 0 of `force` is the
- * first grant's force bit. */
-uint8_t crustnewt_head_gate(size_t link, const uint64_t *grants, size_t grants_words, uint8_t force, uint64_t *head,
-                            size_t head_words, uint64_t *links, size_t links_words, uint8_t *output, size_t output_octets,
+/* The client drops a registered box. CRUSTNEWT_LINK; CRUSTNEWT_STATE where the link only waits. */
+uint8_t crustnewt_head_deregister(size_t link, uint64_t *head, size_t head_words, uint64_t *links, size_t links_words, uint8_t *output,
+                                  size_t output_octets, uint64_t *reply, size_t reply_words);
+
+/* The client sends a GATE of 0 to 4 grants. Bit 0 of `force` is the first grant's force bit. CRUSTNEWT_LINK; CRUSTNEWT_RANGE, also for a
+ * force bit without its grant; CRUSTNEWT_GRANT for more grants. */
+uint8_t crustnewt_head_gate(size_t link, const uint64_t *grants, size_t grants_words, uint8_t force, uint64_t *head, size_t head_words,
+                            uint64_t *links, size_t links_words, uint8_t *output, size_t output_octets, uint64_t *reply, size_t reply_words);
+
+/* A frame came: its octets and its numbers as for a box, and the link that it came on. That is 0 for a REGISTER_REQ that asks to register,
+ * since newcomers share the broadcast LLID, and else the link of the box that sent it: the LLID that it came under, which is the port of
+ * the box's REGISTER; or, without LLIDs, the place of its source among the table's addresses (examples/pair.c). CRUSTNEWT_LINK;
+ * CRUSTNEWT_STATE for a REGISTER_REQ that asks outside the window. */
+uint8_t crustnewt_head_hear(size_t link, const uint8_t *octets, size_t octets_length, uint64_t *head, size_t head_words, uint64_t *links,
+                            size_t links_words, uint8_t *output, size_t output_octets, uint64_t *reply, size_t reply_words);
+
+/* One quantum has passed. It gives no notices: a link whose wait or watchdog has run out is idle, and its REGISTER among the frames. */
+uint8_t crustnewt_head_tick(uint64_t *head, size_t head_words, uint64_t *links, size_t links_words, uint8_t *output, size_t output_octets,
                             uint64_t *reply, size_t reply_words);
-
-/* A frame came on a link: its octets from the destination address on, without check sequence. A box that asks to register comes on
- * link 0. */
-uint8_t crustnewt_head_hear(size_t link, const uint8_t *octets, size_t octets_length, uint64_t *head, size_t head_words,
-                            uint64_t *links, size_t links_words, uint8_t *output, size_t output_octets, uint64_t *reply,
-                            size_t reply_words);
-
-/* One quantum has passed. */
-uint8_t crustnewt_head_tick(uint64_t *head, size_t head_words, uint64_t *links, size_t links_words, uint8_t *output,
-                            size_t output_octets, uint64_t *reply, size_t reply_words);
 
 /* So many quanta have passed, as for a box: that many single ticks, but none behind one that hands out a frame. A window that opens or
  * closes hands out nothing. */
-uint8_t crustnewt_head_advance(uint64_t ticks, uint64_t *head, size_t head_words, uint64_t *links, size_t links_words,
-                               uint8_t *output, size_t output_octets, uint64_t *reply, size_t reply_words, uint64_t *made,
-                               size_t made_words);
+uint8_t crustnewt_head_advance(uint64_t ticks, uint64_t *head, size_t head_words, uint64_t *links, size_t links_words, uint8_t *output,
+                               size_t output_octets, uint64_t *reply, size_t reply_words, uint64_t *made, size_t made_words);
 
 /* How many ticks from now hand out nothing, 0 to CRUSTNEWT_MOST_TICKS; where they are fewer than that, the tick after them hands out a
- * frame. Nothing is refused: the answer for what isn't sound and for a short block is 0. */
+ * frame. No number of the card, as for a box. */
 uint64_t crustnewt_head_ticks_until(const uint64_t *head, size_t head_words, const uint64_t *links, size_t links_words);
 
-/* Frames by themselves. */
-
-/* The words of a message. From CRUSTNEWT_MESSAGE_BODY on:
+/* Frames by themselves: the words of a message. What it doesn't hold is 0. From CRUSTNEWT_MESSAGE_BODY on:
  *   GATE          how many grants (0 to 4), force bits (bit 0 the first grant's), then the grants
  *   DISCOVERY     sync time, force bit, its grant
  *   REPORT        nothing
- *   REGISTER_REQ  flag, pending
- *   REGISTER      flag, port, sync time, pending
- *   REGISTER_ACK  flag, port, sync time
- * with the flags by their numbers on the wire, and a grant as one word: the start in the upper 32 bits, the length below. What a
- * message doesn't hold is 0. */
+ *   REGISTER_REQ  flag (1 register, 3 deregister), pending
+ *   REGISTER      flag (1 reregister, 2 deregister, 3 ack, 4 nack), port, sync time, pending
+ *   REGISTER_ACK  flag (0 nack, 1 ack), port, sync time */
 enum crustnewt_message_word {
     CRUSTNEWT_MESSAGE_DESTINATION = 0,
     CRUSTNEWT_MESSAGE_SOURCE = 1,
@@ -309,24 +317,22 @@ enum crustnewt_message_kind {
     CRUSTNEWT_MESSAGE_REGISTER_ACK = 5
 };
 
-/* A frame's octets read into the words of a message; CRUSTNEWT_SIZE, _KIND, _OPCODE or _RANGE where they are none, and the words
- * are then those of an empty REPORT with every field 0. */
+/* A frame's octets read into the words of a message; CRUSTNEWT_SIZE, _KIND, _OPCODE or _RANGE where they are none. */
 uint8_t crustnewt_read(const uint8_t *octets, size_t octets_length, uint64_t *message, size_t message_words);
 
-/* The words of a message written into the first CRUSTNEWT_FRAME_OCTETS octets; CRUSTNEWT_RANGE, and those octets zero, where a word is
- * no field's or a field is outside its range. */
+/* The words of a message written into the first CRUSTNEWT_FRAME_OCTETS octets; CRUSTNEWT_RANGE where a word is no field's or a field is
+ * outside its range. */
 uint8_t crustnewt_write(const uint64_t *message, size_t message_words, uint8_t *octets, size_t octets_length);
 
-/* A worked example, whole: a box that registers and lives on a timer of 1 ms. examples/coarse.c has it on a board; examples/pair.c has both
- * ends, quantum by quantum.
- *
- *   #include "crustnewt.h"
+/* A worked example, whole: a box that registers, comes back, and lives on a timer of 1 ms. examples/coarse.c has it on a board;
+ * examples/pair.c has both ends, quantum by quantum.
  *
  *   // The board's: it sleeps so many quanta, or less if a frame comes, one has gone or its millisecond is over, and says how many have
  *   // passed. It takes the frame that came and knows the first that waits to be sent, of 0 octets where there is none or one is going.
  *   uint64_t sleep_for(uint64_t quanta);
  *   size_t take_frame(uint8_t *octets);
  *   void queue_frame(const uint8_t *octets);
+ *   void empty_queue(void);
  *   const uint8_t *first_in_queue(size_t *octets);
  *   void send_first(void);
  *   void laser(int on);
@@ -349,16 +355,13 @@ uint8_t crustnewt_write(const uint64_t *message, size_t message_words, uint8_t *
  *   // All the quanta that have passed are made, and what is handed out on the way is looked at when it is.
  *   static uint8_t pass(uint64_t quanta)
  *   {
- *       while (quanta > 0) {
- *           uint64_t ticks = quanta < CRUSTNEWT_MOST_TICKS ? quanta : CRUSTNEWT_MOST_TICKS, made;
- *           uint8_t number = crustnewt_box_advance(ticks, LENT, &made, 1);
+ *       uint8_t number = CRUSTNEWT_DONE;
  *
- *           if (number != CRUSTNEWT_DONE)
- *               return number;
+ *       for (uint64_t made = 0; quanta > 0 && number == CRUSTNEWT_DONE; quanta -= made) {
+ *           number = crustnewt_box_advance(quanta < CRUSTNEWT_MOST_TICKS ? quanta : CRUSTNEWT_MOST_TICKS, LENT, &made, 1);
  *           told();
- *           quanta -= made;
  *       }
- *       return CRUSTNEWT_DONE;
+ *       return number;
  *   }
  *
  *   // While the transmitter is at rest the millisecond will do: what is handed out waits for a window anyway.
@@ -369,16 +372,24 @@ uint8_t crustnewt_write(const uint64_t *message, size_t message_words, uint8_t *
  *       return crustnewt_box_ticks_until(box, CRUSTNEWT_BOX_WORDS) + 1;
  *   }
  *
+ *   // At first, and whenever the box has left: in WAIT the call is always done. To a newcomer nothing that waits is of use.
+ *   static void join(void)
+ *   {
+ *       if (box[CRUSTNEWT_BOX_STATE] == CRUSTNEWT_BOX_STATE_WAIT)
+ *           crustnewt_box_register(LENT);
+ *       if (box[CRUSTNEWT_BOX_STATE] == CRUSTNEWT_BOX_STATE_REGISTERING)
+ *           empty_queue();
+ *   }
+ *
  *   uint8_t run(uint64_t address)
  *   {
  *       uint8_t octets[2048], number = crustnewt_box_fresh(address, LENT);
  *
- *       if (number == CRUSTNEWT_DONE)
- *           number = crustnewt_box_register(LENT);
  *       while (number == CRUSTNEWT_DONE) {
  *           const uint8_t *control;
  *           size_t heard, waiting;
  *
+ *           join();
  *           number = pass(sleep_for(leisure()));
  *           heard = take_frame(octets);
  *           if (heard > 0 && crustnewt_box_hear(octets, heard, random_number(), LENT) == CRUSTNEWT_DONE)

@@ -1,5 +1,6 @@
 //! A head and a floor box in a program without `std` and without an allocator:
-//! the box registers. The exit status is 0 if all went well.
+//! the box registers, is dropped, and registers again. The exit status is 0 if
+//! all went well.
 //!
 //! It has a panic handler of its own, so it isn't compiled where `crustnewt`
 //! brings in `std`.
@@ -32,19 +33,30 @@ extern "C" fn main() -> i32 {
     }
 }
 
-/// The state that the box has come to.
+/// The state that the box has come to. It registers, the head drops it, and it
+/// registers again.
 fn run() -> Result<BoxState, Refusal> {
     let mut head = Head::fresh(0x0200_0000_0001, ArrayTable::<4>::new())?;
     let mut floor_box = FloorBox::fresh(BOX)?;
+    join(&mut head, &mut floor_box)?;
+    let farewell = head.deregister(1)?;
+    floor_box.hear(&farewell.frames()[0], 0)?;
+    join(&mut head, &mut floor_box)?;
+    Ok(floor_box.state())
+}
+
+/// A box in WAIT stays there unless its client asks; the head's client opens a
+/// window for it.
+fn join(head: &mut Head<ArrayTable<4>>, floor_box: &mut FloorBox) -> Result<(), Refusal> {
     floor_box.register()?;
     let grant = Grant {
-        start: 100,
+        start: head.parts().count + 100,
         length: 174,
     };
     let sent = head.open_window(&OpenWindow {
         grant,
         sync: 0,
-        window: 400,
+        window: 174,
     })?;
     floor_box.hear(&sent.frames()[0], 250)?;
     let mut left = 300;
@@ -55,11 +67,11 @@ fn run() -> Result<BoxState, Refusal> {
         // None of its timers ends so soon.
         head.advance(made)?;
         if let Some(request) = asked {
-            admit(&mut head, &mut floor_box, &request)?;
+            admit(head, floor_box, &request)?;
         }
         left -= made;
     }
-    Ok(floor_box.state())
+    Ok(())
 }
 
 /// The head's client takes the box, and the box hears of it.

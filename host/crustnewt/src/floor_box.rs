@@ -172,7 +172,7 @@ impl FloorBox {
         sure(BoxParts::of_words(&self.words))
     }
 
-    /// Its block, to store it.
+    /// Its block, to store it. As octets of memory it is in the machine's order.
     #[inline]
     pub fn words(&self) -> &[u64; BOX_WORDS] {
         &self.words

@@ -143,13 +143,22 @@ impl<T: Table> Head<T> {
         self.call(|memory| sys::head_gate(link, asked, force, memory))
     }
 
-    /// A frame came on a link. A box that asks to register comes on link 0.
+    /// A frame came on a link.
+    ///
+    /// That is 0 for a REGISTER_REQ that asks to register, since newcomers share
+    /// the broadcast LLID, and else the link of the box that sent it: the LLID
+    /// that it came under, which is the port of the box's REGISTER; or, without
+    /// LLIDs, the place of its source among the addresses of
+    /// [`links`](Head::links), from 1.
     #[inline]
     pub fn hear(&mut self, link: usize, octets: &[u8]) -> Result<HeadReply<'_>, Refusal> {
         self.call(|memory| sys::head_hear(link, octets, memory))
     }
 
     /// One quantum has passed.
+    ///
+    /// There is no notice: a link whose wait or watchdog has run out is idle,
+    /// and its REGISTER among the frames.
     #[inline]
     pub fn tick(&mut self) -> Result<HeadReply<'_>, Refusal> {
         self.call(sys::head_tick)
@@ -191,7 +200,8 @@ impl<T: Table> Head<T> {
         sure(HeadParts::of_words(&self.words))
     }
 
-    /// Its block, to store it beside the table's [`words`](Table::words).
+    /// Its block, to store it beside the table's [`words`](Table::words). As
+    /// octets of memory they are in the machine's order.
     #[inline]
     pub fn words(&self) -> &[u64; HEAD_WORDS] {
         &self.words

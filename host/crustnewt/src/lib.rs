@@ -30,6 +30,30 @@
 //! # }
 //! ```
 //!
+//! # What is left to you
+//!
+//! - **Register again.** After [`BoxNotice::Deregistered`] and
+//!   [`BoxNotice::Refused`] a box is in WAIT until [`FloorBox::register`]. After
+//!   [`BoxNotice::Retry`] it tries again by itself.
+//! - **Empty the queue** at each of these three notices: throw away all control
+//!   frames that wait to be sent, with those of that very reply. The next
+//!   discovery window has room for a new REGISTER_REQ alone, and an old one
+//!   tells the head a wrong round trip.
+//! - **Send in time.** That window is as long as that frame, so ask
+//!   [`FloorBox::next_to_send`] in the quantum in which it is handed out. What
+//!   has waited for 3,125,000 quanta is too old: throw it away.
+//! - **Name the link** on which the head hears a frame; [`Head::hear`] says
+//!   which that is.
+//! - **Tell both ends of every quantum**, but not in every quantum: a call takes
+//!   longer than 16 ns. [`FloorBox::advance`] and [`Head::advance`] make the
+//!   ticks that have passed, and `ticks_until` says how long you may sleep.
+//!
+//! A call takes some six thousand octets of stack; `CRUSTNEWT_BOX_STACK_OCTETS`
+//! and `CRUSTNEWT_HEAD_STACK_OCTETS` of `include/crustnewt.h` have it. The
+//! archive behind the crate is for x86-64 only, for now.
+//!
+//! # Features
+//!
 //! It depends on no other crate, and on `core` alone. The feature `std` adds
 //! `VecTable`, a table of a size that is known only when the program runs.
 //!

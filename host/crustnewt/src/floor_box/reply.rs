@@ -15,15 +15,15 @@ pub struct BoxReply<'a> {
 /// What the box tells its client.
 #[derive(Clone, Copy, Debug, PartialEq, Eq)]
 pub enum BoxNotice {
-    /// A discovery window is open.
+    /// A discovery window is open, for the REGISTER_REQ of this reply.
     Window,
     /// The head has registered the box.
     Registered,
-    /// The head has rejected the box.
+    /// The head has rejected the box, which is in WAIT.
     Refused,
-    /// The wait for REGISTER ran out; the box tries again.
+    /// The wait for REGISTER ran out; the box tries again by itself.
     Retry,
-    /// The box isn't registered any more.
+    /// The box isn't registered any more, and is in WAIT.
     Deregistered,
     /// A grant was taken into the list.
     Grant(Granted),

@@ -26,11 +26,12 @@ pub struct HeadNotice {
 /// Kinds of the head's notices.
 #[derive(Clone, Copy, Debug, PartialEq, Eq)]
 pub enum HeadNoticeKind {
-    /// A box asks to register.
+    /// A box asks to register. The frame's source and pending grants are for
+    /// [`admit`](crate::Head::admit) or [`reject`](crate::Head::reject).
     Request,
     /// A box is registered.
     Registered,
-    /// A box was dropped.
+    /// A box said that it leaves, or won't join, and was dropped.
     Dropped,
     /// A report was heard.
     Report,
