@@ -6,6 +6,7 @@ use crate::kept::Kept;
 use crate::measure::Case;
 use crustnewt::sys::{self, BoxMemory, MOST_TICKS};
 use crustnewt::{Body, BoxParts, BoxState, FloorBox, Frame, Grant, Granted, Light, Message, UpTo};
+use crustnewt_tool::numbers::thousands;
 use plain::{Address, Count, GrantList};
 use std::hint::black_box;
 
@@ -136,11 +137,6 @@ fn reach(floor_box: &FloorBox) -> (u64, u32) {
 
 /// Advances by 65,536 before a REPORT or a GATE comes.
 pub const ADVANCES: u32 = 40;
-
-/// A number in groups of three digits, below a million.
-pub fn thousands(number: u64) -> String {
-    format!("{},{:03}", number / 1000, number % 1000)
-}
 
 /// A GATE of four grants. The box is set back before each, so that its list
 /// has room.

@@ -1,11 +1,12 @@
 //! Calls of a head.
 
-use crate::boxes::{thousands, ADVANCES, BOX};
+use crate::boxes::{ADVANCES, BOX};
 use crate::frames::written;
 use crate::kept::Kept;
 use crate::measure::Case;
 use crustnewt::sys::{self, HeadMemory, MOST_TICKS};
 use crustnewt::{Body, Frame, Head, HeadParts, Link, LinkState, Message, Table, VecTable, Window};
+use crustnewt_tool::numbers::{plural, thousands};
 use plain::{Address, HeadAnswer, Refusal};
 use std::hint::black_box;
 
@@ -95,8 +96,7 @@ pub fn advances() -> Vec<Case> {
 const SIZES: [usize; 3] = [1, 8, 64];
 
 fn counted(links: usize) -> String {
-    let plural = if links == 1 { "link" } else { "links" };
-    format!("{links} {plural}")
+    format!("{links} {}", plural(links as u64, "link", "links"))
 }
 
 /// A head with so many registered links, and every timer full.

@@ -9,54 +9,36 @@ mod limits;
 mod measure;
 mod second;
 
+use crustnewt_tool::options::{asks_for_help, refuse, Options};
 use limits::{limit_of, Limit};
 use measure::{Case, Times};
 use std::process::ExitCode;
 
-const HELP: &str = "\
-Usage: bench [--check] [--only TEXT]
-
-Measures calls side by side and prints two tables in Markdown, with the time a
-call, how many times as long the first takes, and the limit of that ratio, which
-is read from docs/PERFORMANCE.md. In the first table the same calls have the same
-inputs on the proved library and on the independent program in plain Rust; in the
-second the proved library advances by many ticks, and beside it makes a single
-one, or in the simulated second all of them. Runs of the two take turns; a time
-is the median of 101 short runs, of a simulated second of 5.
-
-  --check      fail where a ratio is above its limit; a row that is gets two
-               more tries, since a busy machine spoils one
-  --only TEXT  only the rows that have this in their name
-  --help       this text
-
-Exit status: 0 if all went well, 1 if a ratio was above its limit, or if the
-tables on that page have not just the rows that are measured, 2 if the command
-line can't be followed. Build it for release: `./bench` at the repository's root
-does, and so does `cargo run --release -p bench`.";
+const HELP: &str = include_str!("../help.txt");
 
 /// Tries that a row gets before it is above its limit.
 const TRIES: usize = 3;
 
 #[derive(Default)]
-struct Options {
+struct Asked {
     check: bool,
     only: String,
 }
 
 fn main() -> ExitCode {
     let words: Vec<String> = std::env::args().skip(1).collect();
-    if words.iter().any(|word| word == "--help" || word == "-h") {
-        println!("{HELP}");
+    if asks_for_help(&words) {
+        print!("{HELP}");
         return ExitCode::SUCCESS;
     }
-    let options = match options(&words) {
-        Ok(options) => options,
-        Err(complaint) => {
-            eprintln!("bench: {complaint}\n\n{HELP}");
-            return ExitCode::from(2);
-        }
-    };
-    let broken = measure_all(&options);
+    match asked(Options::new(&words)) {
+        Ok(asked) => run(&asked),
+        Err(complaint) => refuse("bench", &complaint, "`bench --help` or `./bench --help`"),
+    }
+}
+
+fn run(asked: &Asked) -> ExitCode {
+    let broken = measure_all(asked);
     for line in &broken {
         eprintln!("bench: {line}");
     }
@@ -66,20 +48,16 @@ fn main() -> ExitCode {
     }
 }
 
-fn options(words: &[String]) -> Result<Options, String> {
-    let mut options = Options::default();
-    let mut words = words.iter();
-    while let Some(word) = words.next() {
-        match word.as_str() {
-            "--check" => options.check = true,
-            "--only" => {
-                let text = words.next().ok_or("--only needs a text")?;
-                options.only.clone_from(text);
-            }
-            _ => return Err(format!("unknown option `{word}`")),
+fn asked(mut options: Options<'_>) -> Result<Asked, String> {
+    let mut asked = Asked::default();
+    while let Some(name) = options.option()? {
+        match name {
+            "--check" => asked.check = true,
+            "--only" => asked.only = options.value().ok_or("--only needs a text")?.to_owned(),
+            _ => return Err(options.unknown()),
         }
     }
-    Ok(options)
+    Ok(asked)
 }
 
 /// Rows that measure the same two things.
@@ -90,17 +68,17 @@ struct Table {
 }
 
 /// Prints the tables; what is wrong with them, where that is asked.
-fn measure_all(options: &Options) -> Vec<String> {
+fn measure_all(asked: &Asked) -> Vec<String> {
     if cfg!(debug_assertions) {
         println!("Not built for release: these times say little.\n");
     }
     let (limits, tables) = (limits::limits(), tables());
     let mut broken = unlike(&limits, &tables);
     for mut table in tables {
-        table.cases.retain(|case| case.name.contains(&options.only));
-        broken.extend(measure_table(&mut table, &limits, options.check));
+        table.cases.retain(|case| case.name.contains(&asked.only));
+        broken.extend(measure_table(&mut table, &limits, asked.check));
     }
-    match options.check {
+    match asked.check {
         true => broken,
         false => Vec::new(),
     }

@@ -2,36 +2,19 @@
 
 use check::{check, check_fixed, compare_wide};
 use crustnewt_core::Core;
-use crustnewt_tool::cores::{core_named, CORES};
-use std::io::IsTerminal;
+use crustnewt_tool::cores::CORES;
+use crustnewt_tool::numbers::plural;
+use crustnewt_tool::options::{asks_for_help, refuse, Options};
+use crustnewt_tool::progress::ProgressLine;
 use std::process::ExitCode;
 use std::time::{Duration, Instant};
 
-const HELP: &str = "\
-Usage: check [OPTION]...
-
-Plays cases on the proved library and on the independent program, and compares
-replies, states, frames, notices and whole outputs: first a fixed set (every
-state with every message, timers at their ends, outputs of every length), then
-cases made from consecutive seeds. An advance is held against single ticks of
-both as well. With each of these cases both are also asked directly, with values
-that a script can't write.
-
-  --cases N       how many made from seeds (default 60000, about a minute)
-  --soak MINUTES  as many as take so long
-  --seed S        seed of the first (default 1)
-  --first NAME    one core, proved or plain (default proved)
-  --second NAME   the other (default plain)
-  --help          this text
-
-The case of a seed alone is played again with `check --cases 1 --seed SEED`.
-Exit status: 0 if no difference was found, 1 if one was (it is printed as a
-replay script, as short as it goes), 2 if the command line can't be followed.";
+const HELP: &str = include_str!("../help.txt");
 
 /// Cases between two lines of progress at a terminal.
 const BETWEEN_LINES: u64 = 1000;
 
-struct Options {
+struct Asked {
     limit: Limit,
     seed: u64,
     first: Box<dyn Core>,
@@ -55,57 +38,42 @@ impl Limit {
 
 fn main() -> ExitCode {
     let words: Vec<String> = std::env::args().skip(1).collect();
-    if words.iter().any(|word| word == "--help" || word == "-h") {
-        println!("{HELP}");
+    if asks_for_help(&words) {
+        print!("{HELP}");
         return ExitCode::SUCCESS;
     }
-    match options(&words) {
-        Ok(options) => run(&options),
-        Err(complaint) => {
-            eprintln!("check: {complaint}\n\n{HELP}");
-            ExitCode::from(2)
-        }
+    match asked(Options::new(&words)) {
+        Ok(asked) => run(&asked),
+        Err(complaint) => refuse("check", &complaint, "`check --help`"),
     }
 }
 
-fn options(words: &[String]) -> Result<Options, String> {
+fn asked(mut options: Options<'_>) -> Result<Asked, String> {
     let (first, last) = (CORES[0].1, CORES[CORES.len() - 1].1);
-    let mut options = Options {
+    let mut asked = Asked {
         limit: Limit::Cases(60_000),
         seed: 1,
         first: first(),
         second: last(),
     };
-    let mut words = words.iter();
-    while let Some(word) = words.next() {
-        match word.as_str() {
-            "--cases" => options.limit = Limit::Cases(number(word, words.next())?),
+    while let Some(name) = options.option()? {
+        match name {
+            "--cases" => asked.limit = Limit::Cases(options.number()?),
             "--soak" => {
-                let minutes = number(word, words.next())?;
-                options.limit = Limit::Time(Duration::from_secs(minutes.saturating_mul(60)));
+                let minutes = options.number()?;
+                asked.limit = Limit::Time(Duration::from_secs(minutes.saturating_mul(60)));
             }
-            "--seed" => options.seed = number(word, words.next())?,
-            "--first" => options.first = core(word, words.next())?,
-            "--second" => options.second = core(word, words.next())?,
-            _ => return Err(format!("unknown option `{word}`")),
+            "--seed" => asked.seed = options.number()?,
+            "--first" => asked.first = options.chosen(CORES)?(),
+            "--second" => asked.second = options.chosen(CORES)?(),
+            _ => return Err(options.unknown()),
         }
     }
-    Ok(options)
+    Ok(asked)
 }
 
-fn number(option: &str, word: Option<&String>) -> Result<u64, String> {
-    word.and_then(|word| word.parse().ok())
-        .ok_or_else(|| format!("{option} needs a number"))
-}
-
-fn core(option: &str, word: Option<&String>) -> Result<Box<dyn Core>, String> {
-    let names: Vec<&str> = CORES.iter().map(|(name, _)| *name).collect();
-    word.and_then(|name| core_named(name))
-        .ok_or_else(|| format!("{option} needs one of: {}", names.join(", ")))
-}
-
-fn run(options: &Options) -> ExitCode {
-    match play(options) {
+fn run(asked: &Asked) -> ExitCode {
+    match play(asked) {
         Ok(told) => {
             println!("{told}");
             ExitCode::SUCCESS
@@ -118,33 +86,32 @@ fn run(options: &Options) -> ExitCode {
 }
 
 /// Plays all cases; tells how many, or where the cores differ.
-fn play(options: &Options) -> Result<String, String> {
-    let (first, second) = (&*options.first, &*options.second);
+fn play(asked: &Asked) -> Result<String, String> {
+    let (first, second) = (&*asked.first, &*asked.second);
     let fixed = check_fixed(first, second).map_err(|failure| failure.to_string())?;
     println!("{fixed} fixed cases, no difference");
-    let terminal = std::io::stderr().is_terminal();
+    let mut line = ProgressLine::at_terminal();
     let begun = Instant::now();
     let mut played = 0;
-    while !options.limit.is_reached(played, begun) {
-        let seed = options.seed.wrapping_add(played);
-        if let Some(told) = difference(options, seed) {
+    while !asked.limit.is_reached(played, begun) {
+        let seed = asked.seed.wrapping_add(played);
+        if let Some(told) = difference(asked, seed) {
             return Err(told);
         }
         played += 1;
-        if terminal && played.is_multiple_of(BETWEEN_LINES) {
-            eprint!("\r  {played} cases ");
+        if played.is_multiple_of(BETWEEN_LINES) {
+            line.show(&format!("{played} cases"));
         }
     }
-    if terminal {
-        eprint!("\r");
-    }
-    let from = options.seed;
-    Ok(format!("{played} cases from seed {from} on, no difference"))
+    let (cases, from) = (plural(played, "case", "cases"), asked.seed);
+    Ok(format!(
+        "{played} {cases} from seed {from} on, no difference"
+    ))
 }
 
 /// How the cores differ on a seed's case.
-fn difference(options: &Options, seed: u64) -> Option<String> {
-    let (first, second) = (&*options.first, &*options.second);
+fn difference(asked: &Asked, seed: u64) -> Option<String> {
+    let (first, second) = (&*asked.first, &*asked.second);
     if let Err(failure) = check(first, second, seed) {
         return Some(failure.to_string());
     }

@@ -1,33 +1,38 @@
 //! `fuzz`: any memory and any octets for every function of the C face.
 
+use crustnewt_tool::options::{asks_for_help, refuse, Options};
 use fuzz::{fuzz, Library, Tally, CALLS};
 use std::process::ExitCode;
 
-const HELP: &str = "\
-Usage: fuzz [OPTION]...
-
-Makes runs of calls on every function of the C face, with words, octets and
-lengths of all kinds, and holds each against what the header promises of every
-call. Lent memory has guards on both sides.
-
-  --cases N  how many runs, of 60 calls each (default 80000, some 15 seconds)
-  --seed S   seed of the first (default 1)
-  --help     this text
-
-Exit status: 0 if every call kept the promises, 1 if one didn't (it is printed
-with all that it was handed), 2 if the command line can't be followed.";
+const HELP: &str = include_str!("../help.txt");
 
 fn main() -> ExitCode {
     let words: Vec<String> = std::env::args().skip(1).collect();
-    if words.iter().any(|word| word == "--help" || word == "-h") {
-        println!("{HELP}");
+    if asks_for_help(&words) {
+        print!("{HELP}");
         return ExitCode::SUCCESS;
     }
-    let Some((cases, seed)) = options(&words) else {
-        eprintln!("fuzz: the command line can't be followed\n\n{HELP}");
-        return ExitCode::from(2);
-    };
-    match run(cases, seed) {
+    match asked(Options::new(&words)) {
+        Ok((cases, seed)) => run(cases, seed),
+        Err(complaint) => refuse("fuzz", &complaint, "`fuzz --help`"),
+    }
+}
+
+/// Number of cases and first seed.
+fn asked(mut options: Options<'_>) -> Result<(u64, u64), String> {
+    let (mut cases, mut seed) = (80_000, 1);
+    while let Some(name) = options.option()? {
+        match name {
+            "--cases" => cases = options.number()?,
+            "--seed" => seed = options.number()?,
+            _ => return Err(options.unknown()),
+        }
+    }
+    Ok((cases, seed))
+}
+
+fn run(cases: u64, seed: u64) -> ExitCode {
+    match make(cases, seed) {
         Ok(tally) => {
             let calls = cases.saturating_mul(CALLS as u64);
             println!("{calls} calls from seed {seed} on, every promise kept");
@@ -41,22 +46,8 @@ fn main() -> ExitCode {
     }
 }
 
-/// Number of cases and first seed.
-fn options(words: &[String]) -> Option<(u64, u64)> {
-    let (mut cases, mut seed) = (80_000, 1);
-    let (pairs, rest) = words.as_chunks();
-    for [option, number] in pairs {
-        let number = number.parse().ok()?;
-        match option.as_str() {
-            "--cases" => cases = number,
-            "--seed" => seed = number,
-            _ => return None,
-        }
-    }
-    rest.is_empty().then_some((cases, seed))
-}
-
-fn run(cases: u64, seed: u64) -> Result<Tally, String> {
+/// Makes all cases; how often each number was answered, or what is wrong.
+fn make(cases: u64, seed: u64) -> Result<Tally, String> {
     let mut tally = [0; 256];
     for case in 0..cases {
         fuzz(&Library, seed.wrapping_add(case), &mut tally)?;

@@ -2,31 +2,30 @@
 
 mod usage;
 
+use crustnewt_tool::options::refuse;
+use crustnewt_tool::progress::ProgressLine;
 use crustnewt_tool::{night, replay};
-use std::io::{self, IsTerminal};
+use std::io::{self, Write};
 use std::process::ExitCode;
+use std::time::Duration;
 use usage::{Command, Usage};
 
-/// Exit status for bad usage.
-const BAD_USAGE: u8 = 2;
+/// Time between two lines of progress.
+const BETWEEN_LINES: Duration = Duration::from_millis(250);
 
 fn main() -> ExitCode {
     let words: Vec<String> = std::env::args().skip(1).collect();
     match usage::command(&words) {
         Ok(command) => finish(run(command)),
-        Err(Usage { complaint, help }) => {
-            eprintln!("crustnewt: {complaint}\n\n{help}");
-            ExitCode::from(BAD_USAGE)
-        }
+        Err(Usage { complaint, help }) => refuse("crustnewt", &complaint, help),
     }
 }
 
 /// Runs a command; true if all went well.
 fn run(command: Command) -> io::Result<bool> {
     match command {
-        Command::Help(text) => {
-            use io::Write;
-            writeln!(io::stdout(), "{text}")?;
+        Command::Print(text) => {
+            io::stdout().write_all(text.as_bytes())?;
             Ok(true)
         }
         Command::Replay(core) => {
@@ -34,9 +33,9 @@ fn run(command: Command) -> io::Result<bool> {
             Ok(true)
         }
         Command::Night(core, options) => {
-            let terminal = io::stderr().is_terminal();
-            let mut progress = night::Progress::new(terminal, options.ticks);
-            night::run(&*core, &options, io::stdout().lock(), &mut progress)
+            let line = ProgressLine::at_terminal();
+            let progress = night::Progress::new(line, options.ticks, BETWEEN_LINES);
+            night::run(&*core, &options, io::stdout().lock(), progress)
         }
     }
 }

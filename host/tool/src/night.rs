@@ -11,6 +11,7 @@ mod world;
 
 use crustnewt_core::Core;
 use std::io::{self, Write};
+use timeline::Timeline;
 use world::World;
 
 pub use progress::Progress;
@@ -41,7 +42,7 @@ pub fn run(
     core: &dyn Core,
     options: &Options,
     output: impl Write,
-    progress: &mut Progress,
+    progress: Progress<'_>,
 ) -> io::Result<bool> {
-    World::new(core, options, output).run(progress)
+    World::new(core, options, Timeline { output, progress }).run()
 }

@@ -1,15 +1,19 @@
-//! Nights end as document 01 lets them.
+//! Nights end as the rules let them.
 
-use crustnewt_tool::cores::CORES;
+use crustnewt_tool::cores::{core_named, CORES};
 use crustnewt_tool::night::{run, Options, Progress, Scenario};
+use crustnewt_tool::progress::ProgressLine;
 use plain::numbers::TICKS_PER_SECOND;
+use std::cell::RefCell;
+use std::io::{self, Write};
+use std::time::Duration;
 
 /// How a night goes: the same on every core.
 fn night(options: &Options) -> (bool, String) {
     let nights = CORES.iter().map(|(_, make)| {
         let mut output = Vec::new();
-        let mut progress = Progress::new(false, options.ticks);
-        let kept = run(&*make(), options, &mut output, &mut progress).unwrap();
+        let progress = Progress::new(ProgressLine::nowhere(), options.ticks, Duration::ZERO);
+        let kept = run(&*make(), options, &mut output, progress).unwrap();
         (kept, String::from_utf8(output).unwrap())
     });
     let nights: Vec<(bool, String)> = nights.collect();
@@ -57,6 +61,45 @@ fn floor_31(options: &Options) {
     // Its last GATE came no more than a round of gates and a delay before.
     assert!(left > dropped + 62_500_000 - 1_100_000 && left <= dropped + 62_500_000 + 62);
     assert!(back > left && back < left + 2 * 6_250_000);
+    let told = [
+        ("was dropped by the head", dropped),
+        ("left", left),
+        ("was back", back),
+    ];
+    assert!(ends_with(&timeline, &told), "{timeline}");
+}
+
+/// Whether the night's last lines tell this of floor 31, in this order.
+fn ends_with(timeline: &str, story: &[(&str, u64)]) -> bool {
+    let last: Vec<&str> = timeline.lines().rev().take(story.len()).collect();
+    let mut pairs = last.iter().rev().zip(story);
+    pairs.all(|(line, (what, tick))| {
+        let begins = line.starts_with(&format!("Floor 31 {what} at "));
+        let digits: String = line.chars().filter(char::is_ascii_digit).collect();
+        begins && digits.ends_with(&tick.to_string())
+    })
+}
+
+#[test]
+fn a_night_that_ends_early_tells_no_return() {
+    let cut_short = |scenario| Options {
+        ticks: TICKS_PER_SECOND,
+        ..options(scenario)
+    };
+    let (_, timeline) = night(&cut_short(Scenario::Floor31));
+    let story: Vec<&str> = { timeline.lines() }
+        .filter(|line| line.starts_with("Floor 31 "))
+        .collect();
+    let expected = [
+        "Floor 31 was dropped by the head at 1.000000 s (tick 62,500,000).",
+        "Floor 31 was not back when the night ended.",
+    ];
+    assert_eq!(story, expected);
+    // Its fibre is cut in the last tick, and neither end knows.
+    let (_, timeline) = night(&cut_short(Scenario::Dark));
+    let registered = tick_of(&timeline, "is registered at both ends");
+    assert!(ends_with(&timeline, &[("was registered", registered)]));
+    assert_eq!(timeline.matches("\nFloor 31 ").count(), 1);
 }
 
 #[test]
@@ -104,4 +147,60 @@ fn advances_end_where_single_ticks_do() {
         };
         assert_eq!(night(&advancing), night(&every_tick));
     }
+}
+
+/// One terminal for the timeline and the progress.
+#[derive(Default)]
+struct Terminal(RefCell<Vec<u8>>);
+
+impl Write for &Terminal {
+    fn write(&mut self, octets: &[u8]) -> io::Result<usize> {
+        self.0.borrow_mut().write(octets)
+    }
+
+    fn flush(&mut self) -> io::Result<()> {
+        Ok(())
+    }
+}
+
+impl Terminal {
+    /// What stands on it when all is written: what follows a carriage return
+    /// is written over what was there.
+    fn screen(&self) -> String {
+        let written = String::from_utf8(self.0.borrow().clone()).unwrap();
+        let line = |line: &str| {
+            let mut shown = Vec::new();
+            for part in line.split('\r') {
+                let part: Vec<char> = part.chars().collect();
+                let kept = part.len().min(shown.len());
+                shown.splice(..kept, part);
+            }
+            let shown: String = shown.into_iter().collect();
+            shown.trim_end().to_owned() + "\n"
+        };
+        written.lines().map(line).collect()
+    }
+}
+
+#[test]
+fn progress_leaves_no_trace_between_lines() {
+    let options = Options {
+        boxes: 1,
+        loss: 400,
+        ticks: 3_500_000,
+        every_tick: true,
+        ..options(Scenario::Storm)
+    };
+    let terminal = Terminal::default();
+    let line = ProgressLine::on(&terminal);
+    let progress = Progress::new(line, options.ticks, Duration::ZERO);
+    let core = core_named("plain").unwrap();
+    run(&*core, &options, &terminal, progress).unwrap();
+    let written = String::from_utf8(terminal.0.borrow().clone()).unwrap();
+    assert!(written.contains("\r  0.01 of 0.06 s simulated "));
+    let (_, alone) = night(&options);
+    let alone: String = { alone.lines() }
+        .map(|line| line.trim_end().to_owned() + "\n")
+        .collect();
+    assert_eq!(terminal.screen(), alone);
 }

@@ -1,56 +1,51 @@
-//! How far the simulation is, for whoever waits at a terminal.
+//! How far the simulation is.
 
+use crate::progress::ProgressLine;
 use plain::numbers::TICKS_PER_SECOND;
-use std::io::Write;
 use std::time::{Duration, Instant};
 
 /// Steps between looks at the wall clock, which cost more than a tick.
 const STEPS_BETWEEN_LOOKS: u32 = 4096;
-const BETWEEN_LINES: Duration = Duration::from_millis(250);
 
-/// Writes progress to standard error, where asked to.
-pub struct Progress {
-    shown: bool,
-    wanted: bool,
+/// Shows how much of a night is simulated.
+pub struct Progress<'a> {
+    line: ProgressLine<'a>,
     ticks: u64,
     steps: u32,
+    between: Duration,
     next: Instant,
 }
 
-impl Progress {
-    /// Progress through so many ticks; none is written unless `wanted`.
-    pub fn new(wanted: bool, ticks: u64) -> Progress {
+impl<'a> Progress<'a> {
+    /// Progress through so many ticks, shown there when so much time has
+    /// passed since it was shown last.
+    pub fn new(line: ProgressLine<'a>, ticks: u64, between: Duration) -> Progress<'a> {
         Progress {
-            shown: false,
-            wanted,
+            line,
             ticks,
             steps: 0,
-            next: Instant::now() + BETWEEN_LINES,
+            between,
+            next: Instant::now() + between,
         }
     }
 
     /// One step was made, which led to tick `now`.
     pub(super) fn step(&mut self, now: u64) {
         self.steps = self.steps.wrapping_add(1);
-        if !self.wanted
+        if !self.line.is_seen()
             || !self.steps.is_multiple_of(STEPS_BETWEEN_LOOKS)
             || Instant::now() < self.next
         {
             return;
         }
-        self.next = Instant::now() + BETWEEN_LINES;
-        self.shown = true;
+        self.next = Instant::now() + self.between;
         let [done, all] = [now, self.ticks].map(|ticks| ticks as f64 / TICKS_PER_SECOND as f64);
-        eprint!("\r  {done:.2} of {all:.2} s simulated ");
-        // A line that can't be shown is no reason to stop.
-        let _ = std::io::stderr().flush();
+        self.line
+            .show(&format!("{done:.2} of {all:.2} s simulated"));
     }
 
-    /// Takes the progress off the terminal again.
+    /// Takes the progress off the terminal, so that a line can be written.
     pub(super) fn clear(&mut self) {
-        if self.shown {
-            eprint!("\r{:40}\r", "");
-            self.shown = false;
-        }
+        self.line.clear();
     }
 }

@@ -1,6 +1,7 @@
 //! What the closing table tells of a floor.
 
 use super::timeline::{seconds, ticks};
+use crate::numbers::thousands;
 use plain::{BoxState, LinkState};
 use std::io::{self, Write};
 
@@ -38,14 +39,16 @@ impl Pair {
 #[derive(Clone, Debug, Default)]
 pub(super) struct Record {
     pair: Pair,
-    since: u64,
+    /// When the pair came to be seen so.
+    changed: u64,
+    /// Up to where its time is booked.
+    booked: u64,
     together: u64,
     pub(super) longest_half_open: u64,
     dropped: u64,
     left: u64,
     last_drop: Option<u64>,
     last_leave: Option<u64>,
-    last_back: Option<u64>,
 }
 
 impl Record {
@@ -54,13 +57,14 @@ impl Record {
         if pair != self.pair {
             self.close(now);
             self.pair = pair;
+            self.changed = now;
         }
     }
 
     /// Books the time since the pair last changed.
     pub(super) fn close(&mut self, now: u64) {
-        let passed = now - self.since;
-        self.since = now;
+        let passed = now - self.booked;
+        self.booked = now;
         if self.pair == Pair::Together {
             self.together += passed;
         }
@@ -81,28 +85,29 @@ impl Record {
         self.last_leave = Some(now);
     }
 
-    /// Both ends are registered again, or for the first time.
-    pub(super) fn back_at(&mut self, now: u64) {
-        self.last_back = Some(now);
-    }
-
-    /// When the box was dropped, left and was back.
+    /// When the box was last dropped and when it last left, in their order, and
+    /// since when it is back, if it is.
     pub(super) fn write_story(&self, output: &mut impl Write, floor: u32) -> io::Result<()> {
-        let times = [
-            ("was dropped by the head", self.last_drop),
-            ("left", self.last_leave),
-            ("was back", self.last_back),
-        ];
-        for (what, at) in times {
-            if let Some(at) = at {
-                let (seconds, ticks) = (seconds(at), ticks(at));
-                writeln!(
-                    output,
-                    "Floor {floor} {what} at {seconds} s (tick {ticks})."
-                )?;
-            }
+        let dropped = self.last_drop.map(|at| (at, "was dropped by the head"));
+        let left = self.last_leave.map(|at| (at, "left"));
+        let mut story: Vec<(u64, &str)> = dropped.into_iter().chain(left).collect();
+        story.sort_unstable();
+        let registered = match story.is_empty() {
+            true => "registered",
+            false => "back",
+        };
+        for (at, what) in story {
+            write_moment(output, floor, what, at)?;
         }
-        Ok(())
+        match self.pair {
+            Pair::Together => {
+                write_moment(output, floor, &format!("was {registered}"), self.changed)
+            }
+            _ => writeln!(
+                output,
+                "Floor {floor} was not {registered} when the night ended."
+            ),
+        }
     }
 
     /// The closing table's head.
@@ -124,7 +129,7 @@ impl Record {
         };
         writeln!(
             output,
-            "{floor:>5}  {:>12} s  {:>15}  {:>14}  {:>10} s {:>11} ticks  {end}",
+            "{floor:>5}  {:>12} s  {:>15}  {:>14}  {:>10} s {:>17}  {end}",
             seconds(self.together),
             self.dropped,
             self.left,
@@ -132,4 +137,9 @@ impl Record {
             ticks(self.longest_half_open),
         )
     }
+}
+
+fn write_moment(output: &mut impl Write, floor: u32, what: &str, at: u64) -> io::Result<()> {
+    let (seconds, tick) = (seconds(at), thousands(at));
+    writeln!(output, "Floor {floor} {what} at {seconds} s (tick {tick}).")
 }

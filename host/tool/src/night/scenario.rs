@@ -24,16 +24,13 @@ pub(super) enum Event {
 }
 
 impl Scenario {
-    /// The scenario of that name.
-    pub fn named(name: &str) -> Option<Scenario> {
-        match name {
-            "quiet" => Some(Scenario::Quiet),
-            "floor31" => Some(Scenario::Floor31),
-            "storm" => Some(Scenario::Storm),
-            "dark" => Some(Scenario::Dark),
-            _ => None,
-        }
-    }
+    /// Every scenario, with its name.
+    pub const ALL: [(&str, Scenario); 4] = [
+        ("quiet", Scenario::Quiet),
+        ("floor31", Scenario::Floor31),
+        ("storm", Scenario::Storm),
+        ("dark", Scenario::Dark),
+    ];
 
     /// Seconds that it needs to be told.
     pub const fn seconds(self) -> u64 {

@@ -1,15 +1,19 @@
 //! The timeline that a person reads.
 
+use super::progress::Progress;
+use crate::numbers::{plural, thousands};
 use plain::numbers::TICKS_PER_SECOND;
 use std::fmt;
 use std::io::{self, Write};
 
-/// Writes lines of time, floor and what happened.
-pub(super) struct Timeline<W> {
+/// Writes lines of time, floor and what happened. Progress may be on the same
+/// terminal, so it is taken away before each.
+pub(super) struct Timeline<'a, W> {
     pub(super) output: W,
+    pub(super) progress: Progress<'a>,
 }
 
-impl<W: Write> Timeline<W> {
+impl<W: Write> Timeline<'_, W> {
     pub(super) fn tell(
         &mut self,
         now: u64,
@@ -20,11 +24,12 @@ impl<W: Write> Timeline<W> {
             Some(floor) => format!("floor {floor}"),
             None => "head".to_owned(),
         };
+        self.progress.clear();
         writeln!(
             self.output,
             "{:>12} s  tick {:>15}  {who:<9} {what}",
             seconds(now),
-            ticks(now)
+            thousands(now)
         )
     }
 }
@@ -36,17 +41,9 @@ pub(super) fn seconds(ticks: u64) -> String {
     format!("{whole}.{:06}", rest * 16 / 1000)
 }
 
-/// A number of ticks with its thousands set apart.
+/// So many ticks.
 pub(super) fn ticks(ticks: u64) -> String {
-    let digits = ticks.to_string();
-    let mut text = String::new();
-    for (place, digit) in digits.chars().enumerate() {
-        if place > 0 && (digits.len() - place).is_multiple_of(3) {
-            text.push(',');
-        }
-        text.push(digit);
-    }
-    text
+    format!("{} {}", thousands(ticks), plural(ticks, "tick", "ticks"))
 }
 
 #[cfg(test)]
@@ -57,8 +54,7 @@ mod tests {
     fn times_are_readable() {
         assert_eq!(seconds(62_500_000), "1.000000");
         assert_eq!(seconds(93_750_063), "1.500001");
-        assert_eq!(ticks(0), "0");
-        assert_eq!(ticks(999), "999");
-        assert_eq!(ticks(62_500_000), "62,500,000");
+        assert_eq!(ticks(1), "1 tick");
+        assert_eq!(ticks(62_500_000), "62,500,000 ticks");
     }
 }

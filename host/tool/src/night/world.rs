@@ -6,12 +6,12 @@ mod closing;
 use super::fibre::Fibre;
 use super::floor::Floor;
 use super::head_client::{link_of, link_state, HeadClient};
-use super::progress::Progress;
 use super::record::Pair;
 use super::scenario::Event;
 use super::timeline::Timeline;
 use super::Options;
 use crate::dice::Dice;
+use crate::numbers::plural;
 use crustnewt_core::{Advanced, Core, HeadCore, HeadReply};
 use plain::frame::{RegisterFlag, RequestFlag, FRAME_OCTETS};
 use plain::numbers::MOST_TICKS;
@@ -40,7 +40,7 @@ pub(super) struct World<'a, W> {
     fibre: Fibre,
     events: &'static [(u64, Event)],
     random: Dice,
-    timeline: Timeline<W>,
+    timeline: Timeline<'a, W>,
     /// Whether something other than counts and timers has changed.
     stirred: bool,
     unsound: u64,
@@ -49,7 +49,11 @@ pub(super) struct World<'a, W> {
 }
 
 impl<'a, W: Write> World<'a, W> {
-    pub(super) fn new(core: &'a dyn Core, options: &'a Options, output: W) -> World<'a, W> {
+    pub(super) fn new(
+        core: &'a dyn Core,
+        options: &'a Options,
+        timeline: Timeline<'a, W>,
+    ) -> World<'a, W> {
         let mut head = core.head();
         head.lend_links(options.boxes);
         head.lend_output(vec![0; FRAME_OCTETS * options.boxes]);
@@ -68,21 +72,20 @@ impl<'a, W: Write> World<'a, W> {
             fibre: Fibre::new(options.delay, options.loss, dice),
             events: options.scenario.events(),
             random,
-            timeline: Timeline { output },
+            timeline,
             stirred: true,
             unsound: 0,
             astray: 0,
         }
     }
 
-    pub(super) fn run(mut self, progress: &mut Progress) -> io::Result<bool> {
+    pub(super) fn run(mut self) -> io::Result<bool> {
         for floor in &mut self.floors {
             floor.floor_box.register();
         }
-        self.tell_head(format_args!(
-            "the night begins: {} boxes ask to register",
-            self.floors.len()
-        ))?;
+        let boxes = self.floors.len();
+        let ask = plural(boxes as u64, "box asks", "boxes ask");
+        self.tell_head(format_args!("the night begins: {boxes} {ask} to register"))?;
         self.act()?;
         while self.now < self.options.ticks {
             if self.options.every_tick {
@@ -94,9 +97,8 @@ impl<'a, W: Write> World<'a, W> {
             self.act()?;
             self.send()?;
             self.see();
-            progress.step(self.now);
+            self.timeline.progress.step(self.now);
         }
-        progress.clear();
         self.close()
     }
 

@@ -20,11 +20,9 @@ impl<W: Write> World<'_, W> {
                 self.admit(index, pending)
             }
             (HeadNoticeKind::Registered, _) => {
-                self.floors[index].record.back_at(self.now);
                 let (link, trip) = (notice.link, ticks(u64::from(notice.trip)));
-                let told = format!(
-                    "is registered at both ends: link {link}, {trip} ticks from stamp to head"
-                );
+                let told =
+                    format!("is registered at both ends: link {link}, {trip} from stamp to head");
                 self.tell(index, told)
             }
             _ => Ok(()),

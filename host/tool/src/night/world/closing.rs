@@ -5,6 +5,7 @@ use crate::night::floor::Floor;
 use crate::night::record::Record;
 use crate::night::scenario::Scenario;
 use crate::night::timeline::{seconds, ticks};
+use crate::numbers::thousands;
 use plain::numbers::WATCHDOG;
 use std::io::{self, Write};
 
@@ -41,31 +42,31 @@ impl<W: Write> World<'_, W> {
         writeln!(
             output,
             "\nFrames lost on the fibre: {}.",
-            ticks(self.fibre.lost)
+            thousands(self.fibre.lost)
         )?;
         let way = ticks(way);
         writeln!(
             output,
-            "Longest way of a frame, waiting for its window included: {way} ticks."
+            "Longest way of a frame, waiting for its window included: {way}."
         )?;
         let verdict = if kept { "kept" } else { "BROKEN" };
         let (bound, time) = (ticks(bound), seconds(bound));
         writeln!(
             output,
-            "No pair half-open for more than {bound} ticks ({time} s): {verdict}."
+            "No pair half-open for more than {bound} ({time} s): {verdict}."
         )?;
         if self.unsound > 0 {
             writeln!(
                 output,
                 "Calls refused with 12, 13 or 14: {}.",
-                ticks(self.unsound)
+                thousands(self.unsound)
             )?;
         }
         if self.astray > 0 {
             writeln!(
                 output,
                 "Advances that didn't make their ticks: {}.",
-                ticks(self.astray)
+                thousands(self.astray)
             )?;
         }
         Ok(kept)
