@@ -2,7 +2,7 @@
 -- Assumes nothing.
 use Prim.Native.Nat.{ℕ, _+_, _≤_, zero, suc}
 use mathlib.Core.Path.{_≡_, ap}
-use mathlib.Core.List.{List, _++_, []}
+use mathlib.Core.List.{List, _++_, [], _∷_}
 use native.Mathlib.Nat.{zero-add, suc-add, not-suc-le-zero, le-of-suc-le-suc}
 use lib.ListN.{length, take, drop}
 use Rattle.octets.specs.Octets.{bytes}

@@ -2,7 +2,7 @@
 -- Assumes nothing.
 use Prim.Native.Nat.{ℕ, zero, suc}
 use mathlib.Core.Bool.{cond}
-use mathlib.Core.List.{List, _++_, []}
+use mathlib.Core.List.{List, _++_, [], _∷_}
 use lib.ListN.{length, drop, replicate}
 use Rattle.frame_range.specs.Fits.{fitsMessage}
 use Rattle.frame.specs.Layout.{encode}
