@@ -4,6 +4,7 @@ use Prim.Native.Nat.{_+_, _-_, _%_, _^_}
 use mathlib.Core.Bool.{Bool, true, false, cond}
 use lib.Dec.{eqb}
 use Rattle.clock.specs.Numbers.{laserOn}
+use Rattle.clock.specs.Timers.{stopped}
 use Rattle.clock.specs.declared.Quanta.{Quanta}
 use Rattle.clock.specs.declared.Timer.{Timer}
 use Rattle.box_light.specs.declared.Light.{Light}
@@ -43,7 +44,7 @@ isOn (Lit t length sync) = true
 isOn (Open t) = true
 
 abbrev pub timerOf : Light → Timer
-timerOf Rest = record { left = 0 }
+timerOf Rest = stopped
 timerOf (Before t random sync) = t
 timerOf (Random t sync) = t
 timerOf (Warming t) = t

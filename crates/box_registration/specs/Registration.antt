@@ -3,22 +3,19 @@
 use Prim.Native.Nat.{ℕ}
 use mathlib.Core.Bool.{Bool, true, false}
 use Rattle.clock.specs.Numbers.{watchdog, periodic, wait}
+use Rattle.clock.specs.Timers.{stopped}
 use Rattle.clock.specs.declared.Quanta.{Quanta}
-use Rattle.clock.specs.declared.Timer.{Timer}
 use Rattle.box_registration.specs.declared.State.{State}
 use Rattle.box_registration.specs.declared.State.the-variants.{Wait, Registering, RegisterReq, Registered}
 use Rattle.box_registration.specs.declared.Registration.{Registration}
 
-abbrev pub off : Timer
-off = record { left = 0 }
-
 -- R88, R95, R97: a state that runs no timer; port and sync stay
 abbrev pub entering : State → Registration → Registration
-entering s r = record { state = s; wait = off; watchdog = off; report = off; port = r .port; sync = r .sync }
+entering s r = record { state = s; wait = stopped; watchdog = stopped; report = stopped; port = r .port; sync = r .sync }
 
 -- R90
 abbrev pub fresh : Registration
-fresh = record { state = Wait; wait = off; watchdog = off; report = off; port = 0; sync = record { 0 = 0 } }
+fresh = record { state = Wait; wait = stopped; watchdog = stopped; report = stopped; port = 0; sync = record { 0 = 0 } }
 
 abbrev pub waiting : Registration → Registration
 waiting r = entering Wait r
@@ -28,14 +25,14 @@ registering r = entering Registering r
 
 -- R111
 abbrev pub requesting : Registration → Registration
-requesting r = record { state = RegisterReq; wait = record { left = wait }; watchdog = off; report = off; port = r .port; sync = r .sync }
+requesting r = record { state = RegisterReq; wait = record { left = wait }; watchdog = stopped; report = stopped; port = r .port; sync = r .sync }
 
 -- R114
 abbrev pub registered : ℕ → Quanta → Registration
 registered port sync =
     record {
       state = Registered;
-      wait = off;
+      wait = stopped;
       watchdog = record { left = watchdog };
       report = record { left = periodic };
       port = port;

@@ -43,12 +43,12 @@ impl Registration {
     pub fn fresh() -> Registration
         ensures { λ r. ⌜ r ≡ fresh ⌝ }
     {
-        let off = Timer::stopped();
+        let stopped = Timer::stopped();
         Registration {
             state: State::Wait,
-            wait: off,
-            watchdog: off,
-            report: off,
+            wait: stopped,
+            watchdog: stopped,
+            report: stopped,
             port: 0,
             sync: Quanta(0),
         }
@@ -58,13 +58,13 @@ impl Registration {
     fn entering(self, state: State) -> Registration
         ensures { λ r. ⌜ r ≡ entering state self ⌝ }
     {
-        let off = Timer::stopped();
+        let stopped = Timer::stopped();
         let sync = self.sync;
         Registration {
             state,
-            wait: off,
-            watchdog: off,
-            report: off,
+            wait: stopped,
+            watchdog: stopped,
+            report: stopped,
             port: self.port,
             sync,
         }
@@ -95,12 +95,12 @@ impl Registration {
     pub fn registered(self, port: u16, sync: Quanta) -> Registration
         ensures { λ r. ⌜ r ≡ registered port sync ⌝ }
     {
-        let off = Timer::stopped();
-        let watchdog = off.start(Timer::WATCHDOG);
-        let report = off.start(Timer::PERIODIC);
+        let stopped = Timer::stopped();
+        let watchdog = stopped.start(Timer::WATCHDOG);
+        let report = stopped.start(Timer::PERIODIC);
         Registration {
             state: State::Registered,
-            wait: off,
+            wait: stopped,
             watchdog,
             report,
             port,

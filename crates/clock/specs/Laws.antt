@@ -15,7 +15,7 @@ use Rattle.clock.specs.declared.Reach.the-variants.{Past, Ahead}
 use Rattle.clock.specs.declared.Timer.{Timer}
 use Rattle.clock.specs.Counts.{nextOf, laterOf, gap, distance, isPast, nearer, reach}
 use Rattle.clock.specs.Numbers.{furthest, furthestAdvance, inReach, startInRange, quantaOf}
-use Rattle.clock.specs.Timers.{off, runs, ticked, passedOf, quietOf}
+use Rattle.clock.specs.Timers.{stopped, off, runs, ticked, passedOf, quietOf}
 
 -- what wraps back to a when b is added is the gap from b to a
 pub gap-of : (a b r : ℕ) → a < 2 ^ 32 → b < 2 ^ 32 → r < 2 ^ 32 → (r + b) % 2 ^ 32 ≡ a → r ≡ gap b a
@@ -168,7 +168,7 @@ pub passed-left : (t : Timer) (k : ℕ) → passedOf t k .left ≡ t .left - k
 unfolding passedOf
 passed-left t k = refl
 
-pub passed-out : (t : Timer) (k : ℕ) → t .left < k → record { left = 0 } ≡ passedOf t k
+pub passed-out : (t : Timer) (k : ℕ) → t .left < k → stopped ≡ passedOf t k
 unfolding passedOf
 passed-out t k h =
     let n : t .left - k ≡ 0 = omega arith in

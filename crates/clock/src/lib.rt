@@ -3,7 +3,7 @@ ghost use Prim.Native.Nat.{_-_, min};
 ghost use mathlib.Core.Path.{_≡_};
 ghost use Rattle.clock.specs.Counts.{nextOf, laterOf, distance, isPast, nearer, reach, driftOf, roundTrip};
 ghost use Rattle.clock.specs.Numbers.{startInRange, inReach, needed};
-ghost use Rattle.clock.specs.Timers.{off, runs, ticked, passedOf, quietOf};
+ghost use Rattle.clock.specs.Timers.{stopped, off, runs, ticked, passedOf, quietOf};
 
 // The smaller of two numbers.
 pub fn least(a: u32, b: u32) -> u32
@@ -184,7 +184,7 @@ impl Timer {
     pub const FURTHEST_ADVANCE: u32 = 65_536;
 
     pub fn stopped() -> Timer
-        ensures { λ r. ⌜ r ≡ record { left = 0 } ⌝ }
+        ensures { λ r. ⌜ r ≡ stopped ⌝ }
     {
         Timer { left: 0 }
     }
@@ -196,7 +196,7 @@ impl Timer {
     }
 
     pub fn stop(self) -> Timer
-        ensures { λ r. ⌜ r ≡ record { left = 0 } ⌝ }
+        ensures { λ r. ⌜ r ≡ stopped ⌝ }
     {
         Timer::stopped()
     }

@@ -5,6 +5,7 @@ use mathlib.Core.Bool.{Bool, true, cond, _&&_}
 use mathlib.Core.List.{List, [], _∷_, _++_, map}
 use lib.Dec.{eqb}
 use lib.ListN.{take, drop, getD}
+use Rattle.clock.specs.Timers.{stopped}
 use Rattle.clock.specs.declared.Timer.{Timer}
 use Rattle.box_calls.specs.declared.FloorBox.{FloorBox}
 use Rattle.box_grants.specs.declared.Entry.{Entry}
@@ -56,7 +57,7 @@ phaseWords phase timer grant sync = record { phase = phase; left = timer .left; 
 
 -- what a phase does not hold is 0
 abbrev pub lightWords : Light → LightWords
-lightWords Rest = phaseWords 0 (record { left = 0 }) 0 0
+lightWords Rest = phaseWords 0 stopped 0 0
 lightWords (Before t random sync) = phaseWords 1 t (random .0) (sync .0)
 lightWords (Random t sync) = phaseWords 2 t 0 (sync .0)
 lightWords (Warming t) = phaseWords 3 t 0 0

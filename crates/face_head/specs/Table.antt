@@ -6,7 +6,7 @@ use mathlib.Core.Bool.{Bool, cond}
 use mathlib.Core.List.{List, [], _∷_, _++_}
 use lib.Dec.{eqb, leb}
 use lib.ListN.{length, take, drop, getD}
-use Rattle.head_links.specs.Link.{off}
+use Rattle.clock.specs.Timers.{stopped}
 use Rattle.head_links.specs.declared.Link.{Link}
 use Rattle.head_links.specs.declared.State.{State}
 use Rattle.head_links.specs.declared.State.the-variants.{Idle, Waiting, Registered}
@@ -54,7 +54,7 @@ isLink w = same (five (linkWords (linkOf w))) (five w)
 
 -- an idle link whose wait runs, and past every setting: sound nowhere
 abbrev pub noLink : Link
-noLink = record { address = record { 0 = 0 }; state = Idle; wait = record { left = 4294967295 }; watchdog = off; periodic = off }
+noLink = record { address = record { 0 = 0 }; state = Idle; wait = record { left = 4294967295 }; watchdog = stopped; periodic = stopped }
 
 -- the link that words tell; those that are no link's tell one that is sound nowhere
 unfoldable pub linkIn : LinkWords → Link

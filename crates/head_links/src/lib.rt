@@ -69,41 +69,41 @@ impl Link {
     pub fn idle() -> Link
         ensures { λ r. ⌜ r ≡ idle ⌝ }
     {
-        let off = Timer::stopped();
+        let stopped = Timer::stopped();
         let nobody = Address(0);
         Link {
             address: nobody,
             state: State::Idle,
-            wait: off,
-            watchdog: off,
-            periodic: off,
+            wait: stopped,
+            watchdog: stopped,
+            periodic: stopped,
         }
     }
 
     fn waiting_at(address: Address) -> Link
         ensures { λ r. ⌜ r ≡ waitingAt address ⌝ }
     {
-        let off = Timer::stopped();
-        let wait = off.start(Timer::WAIT);
+        let stopped = Timer::stopped();
+        let wait = stopped.start(Timer::WAIT);
         Link {
             address,
             state: State::Waiting,
             wait,
-            watchdog: off,
-            periodic: off,
+            watchdog: stopped,
+            periodic: stopped,
         }
     }
 
     fn registered_at(address: Address) -> Link
         ensures { λ r. ⌜ r ≡ registeredAt address ⌝ }
     {
-        let off = Timer::stopped();
-        let watchdog = off.start(Timer::WATCHDOG);
-        let periodic = off.start(Timer::PERIODIC);
+        let stopped = Timer::stopped();
+        let watchdog = stopped.start(Timer::WATCHDOG);
+        let periodic = stopped.start(Timer::PERIODIC);
         Link {
             address,
             state: State::Registered,
-            wait: off,
+            wait: stopped,
             watchdog,
             periodic,
         }

@@ -55,8 +55,8 @@ impl Window {
     fn inside_for(length: Quanta) -> Window
         ensures { λ r. ⌜ r ≡ insideFor length ⌝ }
     {
-        let off = Timer::stopped();
-        let timer = off.start(length);
+        let stopped = Timer::stopped();
+        let timer = stopped.start(length);
         Window::Inside { timer }
     }
 
@@ -70,8 +70,8 @@ impl Window {
                 if wait.0 == 0 {
                     return Window::inside_for(length);
                 }
-                let off = Timer::stopped();
-                let timer = off.start(wait);
+                let stopped = Timer::stopped();
+                let timer = stopped.start(wait);
                 Window::Before { timer, length }
             }
         }
