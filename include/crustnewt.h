@@ -11,15 +11,16 @@
  * Words are aligned as uint64_t. A call takes at most CRUSTNEWT_BOX_STACK_OCTETS or CRUSTNEWT_HEAD_STACK_OCTETS of stack. For now there
  * is code for x86-64 only: System V calls, with SSE2 and the red zone.
  *
- * LENGTHS. Every pointer is followed by the number of its elements: octets of a uint8_t *, words of a uint64_t *. Each length is judged. A
- * block or a reply that is too short is answered CRUSTNEWT_SHORT; one that is longer is fine. What a call has no use for stays as it was:
- * words behind the block, behind the last whole link of a table and behind the last notice of a reply, and octets that no frame takes.
+ * LENGTHS. Every pointer is followed by the number of its elements: octets of a uint8_t *, words of a uint64_t *. Each length is judged. Too
+ * short is CRUSTNEWT_SHORT, but for the head's output (CRUSTNEWT_OUTPUT) and a table of not 1 to 64 links (CRUSTNEWT_UNSOUND); longer is fine.
+ * What a call has no use for stays as it was: words behind the block, behind the last whole link of a table and behind the last notice of
+ * a reply, and octets that no frame takes.
  *
  * NUMBERS. A call answers a number of the service card. Any but CRUSTNEWT_DONE is a refusal: block, table, frames and output stay as they
- * were; told are 0 frames, 0 notices, a drift of 0 and 0 ticks made. Three things differ from that. CRUSTNEWT_SHORT tells nothing either:
- * all that was lent stays. A crustnewt_box_fresh or crustnewt_head_fresh that answers CRUSTNEWT_RANGE leaves a block of zeros, which isn't
- * sound; the table stays. A refused crustnewt_read leaves an empty REPORT with every field 0, a refused crustnewt_write sixty zeros. Beside
- * each call stand the numbers that it can answer, but for CRUSTNEWT_SHORT, CRUSTNEWT_UNSOUND and, at the head, CRUSTNEWT_OUTPUT.
+ * were, and the reply tells 0 frames, 0 notices, a drift of 0, and `made` 0 ticks. There are three exceptions. CRUSTNEWT_SHORT tells nothing
+ * either: all that was lent stays. A crustnewt_box_fresh or crustnewt_head_fresh that answers CRUSTNEWT_RANGE leaves a block of zeros, which
+ * isn't sound; the table stays. A refused crustnewt_read leaves an empty REPORT with every field 0, a refused crustnewt_write sixty zeros.
+ * Beside each call stand the numbers that it can answer, but for CRUSTNEWT_SHORT, CRUSTNEWT_UNSOUND and, at the head, CRUSTNEWT_OUTPUT.
  *
  * STATES. Read the words of a block and a table as you like; write none but to hand in a state that was stored, by this library or an
  * earlier one. An address has 48 bits, the first octet on the wire highest; a count is the 32-bit counter, in quanta; a timer is the ticks
@@ -29,14 +30,15 @@
  * CRUSTNEWT_UNSOUND, and so are those of a state that isn't sound. Words that are stored as octets are in the machine's octet order: only
  * a machine of the same order may take them back.
  *
- * TIME. A quantum is 16 bit times, 16 ns at 1 Gbit/s. No core makes a call in each of them: a tick with nothing to do takes some 14 ns of a
- * box and 330 of a head with 64 links, other calls take more. None has to. Head and box have no clock: tell them how many quanta have
+ * TIME. A quantum is 16 bit times, 16 ns at 1 Gbit/s. No core makes a call in each of them: a tick with nothing to do takes some 14 ns at a
+ * box and 330 at a head with 64 links, other calls take more. None has to. Head and box have no clock: tell them how many quanta have
  * passed, whenever you come to it, by crustnewt_head_advance and crustnewt_box_advance. An advance is so many single ticks in one call, but
  * stops after the first that hands out a frame or a notice: see to it, and go on with the rest. Where nothing happens, a timer of 1 ms
  * (62,500 quanta) costs a call each. Every other call is made at the count that the block stands at: advance to the moment when a frame
  * came or a client asked, then make the call. To wake up in time, ask crustnewt_head_ticks_until and crustnewt_box_ticks_until: during so
  * many ticks nothing is handed out, nothing is refused and a box's laser stays as it is; whatever comes next comes with the tick after
- * them, or later. A frame bears the count of its own tick, and a head's sets the counts of its boxes, so a head wakes up for its frames.
+ * them, or later. A head's frame sets the counts of its boxes to that of its own tick, so a head wakes up for its frames. A box's may wait;
+ * whoever sends it may put the count of that moment into octets 16 to 19.
  *
  * DUTIES. What no call does for you:
  *   - Register again. The notices deregistered and refused say that a box is in WAIT, where it stays until crustnewt_box_register. After
@@ -45,7 +47,7 @@
  *     control frames that wait, with those of that very call: the box is dark, and its next window has room for a new REGISTER_REQ alone.
  *     An old one that was sent there instead gave the head a round trip of 3,750,549 for 123.
  *   - Send in time. That window is as long as that frame: ask crustnewt_box_next_to_send in the quantum in which it is handed out. What has
- *     waited for 3,125,000 quanta is too old, so throw it away: a box without grants hands out a REPORT as often all the same.
+ *     waited for 3,125,000 quanta is of no use to the head: throw it away. A box without grants hands out a REPORT as often all the same.
  *   - Name the link on which the head hears a frame: crustnewt_head_hear says which that is.
  *   - Tell head and box of every quantum. That no half-open pair lasts rests on timers that run at one rate.
  */
@@ -227,7 +229,7 @@ enum crustnewt_head_reply_word {
     CRUSTNEWT_HEAD_REPLY_NOTICES = 1, /* how many notices, 0 or 1 */
     CRUSTNEWT_HEAD_REPLY_NOTICE = 2,  /* the notice: enum crustnewt_head_notice */
     CRUSTNEWT_HEAD_REPLY_LINK = 3,    /* its link, 0 of a request */
-    CRUSTNEWT_HEAD_REPLY_TRIP = 4     /* its round trip, in quanta */
+    CRUSTNEWT_HEAD_REPLY_TRIP = 4     /* its round trip, in quanta: from the frame's timestamp on, so with what it waited at the box */
 };
 
 enum crustnewt_head_notice {
