@@ -3,49 +3,49 @@
  * Proved code behind a plain C face. This header says how to call it and, under DUTIES, what is left to you; docs/RULES.md of the project
  * says what each call does. A worked example stands at the end.
  *
- * MEMORY. The library allocates nothing, keeps nothing between calls and calls nothing but memcpy and memset. All memory is the caller's:
- * a call borrows it while it runs and holds no pointer afterwards. A box is a block of CRUSTNEWT_BOX_WORDS words; a head is a block of
- * CRUSTNEWT_HEAD_WORDS words and, beside it, its table, CRUSTNEWT_LINK_WORDS words for each of 1 to 64 links. Copy the words and you have
- * copied the box or the head. Calls on different blocks may run at the same time, in threads or in interrupts; two calls on one block may
- * not. No pointer may be null, not even with a length of 0, and no two arguments of a call may overlap, unless both are only read (const).
- * Words are aligned as uint64_t. A call takes at most CRUSTNEWT_BOX_STACK_OCTETS or CRUSTNEWT_HEAD_STACK_OCTETS of stack. For now there
- * is code for x86-64 only: System V calls, with SSE2 and the red zone.
+ * MEMORY. The library allocates nothing, keeps nothing between calls and calls nothing but memcpy and memset. All memory is the caller's,
+ * borrowed while a call runs. A box is a block of CRUSTNEWT_BOX_WORDS words; a head is a block of CRUSTNEWT_HEAD_WORDS words and its table,
+ * CRUSTNEWT_LINK_WORDS words for each of 1 to 64 links. Copy the words and you have copied the box or the head. Calls on different blocks
+ * may run at the same time, in threads or in interrupts; two calls on one block may not. No pointer may be null, not even with a length of
+ * 0, and no two arguments of a call may overlap, unless both are only read (const). Words are aligned as uint64_t. A call takes at most
+ * CRUSTNEWT_BOX_STACK_OCTETS or CRUSTNEWT_HEAD_STACK_OCTETS of stack. For x86-64 only, for now: System V calls, SSE2, red zone.
  *
- * LENGTHS. Every pointer is followed by the number of its elements: octets of a uint8_t *, words of a uint64_t *. Each length is judged. A
- * block or a reply that is too short is answered CRUSTNEWT_SHORT; one that is longer is fine. What a call has no use for stays as it was:
- * words behind the block, behind the last whole link of a table and behind the last notice of a reply, and octets that no frame takes.
+ * LENGTHS. Every pointer is followed by the number of its elements: octets of a uint8_t *, words of a uint64_t *. Each is judged: too short
+ * is CRUSTNEWT_SHORT, but for the head's output (CRUSTNEWT_OUTPUT) and a table of not 1 to 64 links (CRUSTNEWT_UNSOUND); longer is fine.
+ * What a call has no use for stays: words behind a block, a table's last whole link or a reply's last notice, and octets that no frame
+ * takes.
  *
  * NUMBERS. A call answers a number of the service card. Any but CRUSTNEWT_DONE is a refusal: block, table, frames and output stay as they
- * were; told are 0 frames, 0 notices, a drift of 0 and 0 ticks made. Three things differ from that. CRUSTNEWT_SHORT tells nothing either:
- * all that was lent stays. A crustnewt_box_fresh or crustnewt_head_fresh that answers CRUSTNEWT_RANGE leaves a block of zeros, which isn't
- * sound; the table stays. A refused crustnewt_read leaves an empty REPORT with every field 0, a refused crustnewt_write sixty zeros. Beside
- * each call stand the numbers that it can answer, but for CRUSTNEWT_SHORT, CRUSTNEWT_UNSOUND and, at the head, CRUSTNEWT_OUTPUT.
+ * were, and the reply tells 0 frames, 0 notices, a drift of 0, and `made` 0 ticks. There are three exceptions. CRUSTNEWT_SHORT tells nothing
+ * either: all that was lent stays. A crustnewt_box_fresh or crustnewt_head_fresh that answers CRUSTNEWT_RANGE leaves a block of zeros, which
+ * isn't sound; the table stays. A refused crustnewt_read leaves an empty REPORT with every field 0, a refused crustnewt_write sixty zeros.
+ * Beside each call stand the numbers that it can answer, but for those of lengths and of soundness.
  *
  * STATES. Read the words of a block and a table as you like; write none but to hand in a state that was stored, by this library or an
  * earlier one. An address has 48 bits, the first octet on the wire highest; a count is the 32-bit counter, in quanta; a timer is the ticks
  * left, 0 when it is stopped; a grant is its start in the upper 32 bits and its length below. Each state has one block of words: what the
  * state or the phase at hand doesn't hold is 0, and so is what stands behind the last grant of a box's list. Words that are no state's (one
  * of these isn't 0, a state or a phase is unknown, a port has more than 16 bits, a count, a time or a length more than 32) are answered
- * CRUSTNEWT_UNSOUND, and so are those of a state that isn't sound. Words that are stored as octets are in the machine's octet order: only
- * a machine of the same order may take them back.
+ * CRUSTNEWT_UNSOUND, and so are those of a state that isn't sound. Stored as octets, words are in the machine's order, and only for machines
+ * of that order.
  *
- * TIME. A quantum is 16 bit times, 16 ns at 1 Gbit/s. No core makes a call in each of them: a tick with nothing to do takes some 14 ns of a
- * box and 330 of a head with 64 links, other calls take more. None has to. Head and box have no clock: tell them how many quanta have
+ * TIME. A quantum is 16 bit times, 16 ns at 1 Gbit/s. No core makes a call in each of them: a tick with nothing to do takes some 14 ns at a
+ * box and 330 at a head with 64 links, other calls take more. None has to. Head and box have no clock: tell them how many quanta have
  * passed, whenever you come to it, by crustnewt_head_advance and crustnewt_box_advance. An advance is so many single ticks in one call, but
  * stops after the first that hands out a frame or a notice: see to it, and go on with the rest. Where nothing happens, a timer of 1 ms
- * (62,500 quanta) costs a call each. Every other call is made at the count that the block stands at: advance to the moment when a frame
- * came or a client asked, then make the call. To wake up in time, ask crustnewt_head_ticks_until and crustnewt_box_ticks_until: during so
- * many ticks nothing is handed out, nothing is refused and a box's laser stays as it is; whatever comes next comes with the tick after
- * them, or later. A frame bears the count of its own tick, and a head's sets the counts of its boxes, so a head wakes up for its frames.
+ * (62,500 quanta) costs a call each. Other calls are made at the count that the block stands at: advance to the moment when a frame came or
+ * a client asked, then make the call. To wake up in time, ask crustnewt_head_ticks_until and crustnewt_box_ticks_until: during so many ticks
+ * nothing is handed out, nothing is refused and a box's laser stays as it is; what comes next comes with the tick after them or later. A
+ * head's frame sets the counts of its boxes to that of its own tick, so a head wakes up for its frames. A box's may wait; its sender may put
+ * the count of that moment into octets 16 to 19.
  *
  * DUTIES. What no call does for you:
- *   - Register again. The notices deregistered and refused say that a box is in WAIT, where it stays until crustnewt_box_register. After
- *     retry it is REGISTERING by itself.
+ *   - Register again. After deregistered and refused a box is in WAIT until crustnewt_box_register; after retry it is REGISTERING by itself.
  *   - Empty the queue. What a box hands out waits until crustnewt_box_next_to_send lets it go. At each of these three notices throw away all
- *     control frames that wait, with those of that very call: the box is dark, and its next window has room for a new REGISTER_REQ alone.
- *     An old one that was sent there instead gave the head a round trip of 3,750,549 for 123.
+ *     control frames that wait, with those of that very call: the box is dark, and its next window has room for a new REGISTER_REQ alone. An
+ *     old one that was sent there instead gave the head a round trip of 3,750,549 for 123.
  *   - Send in time. That window is as long as that frame: ask crustnewt_box_next_to_send in the quantum in which it is handed out. What has
- *     waited for 3,125,000 quanta is too old, so throw it away: a box without grants hands out a REPORT as often all the same.
+ *     waited for 3,125,000 quanta is of no use to the head: throw it away. A box without grants hands out a REPORT as often all the same.
  *   - Name the link on which the head hears a frame: crustnewt_head_hear says which that is.
  *   - Tell head and box of every quantum. That no half-open pair lasts rests on timers that run at one rate.
  */
@@ -155,7 +155,7 @@ enum crustnewt_box_notice {
 
 /* The calls of the box. */
 
-/* A box that has not begun: count 0, WAIT, dark, no grants. Whatever the block held is gone. CRUSTNEWT_RANGE for an address that is
+/* A box that has not begun: count 0, WAIT, dark, no grants. Whatever the block held is gone. CRUSTNEWT_RANGE for an address that no box has:
  * zero, a group's or above 48 bits. */
 uint8_t crustnewt_box_fresh(uint64_t address, uint64_t *block, size_t block_words, uint8_t *frames, size_t frames_octets, uint64_t *reply,
                             size_t reply_words);
@@ -186,9 +186,8 @@ uint8_t crustnewt_box_advance(uint64_t ticks, uint64_t *block, size_t block_word
  * which may pass in silence too, and none where the next tick chooses a grant. No number of the card: what isn't sound or is short has 0. */
 uint64_t crustnewt_box_ticks_until(const uint64_t *block, size_t block_words);
 
-/* Which of a waiting control frame and a waiting data frame goes next: 0 neither, 1 the control frame, 2 the data frame. A length
- * of 0 says that none waits; of the octets only the lengths are looked at. CRUSTNEWT_SHORT alone is refused: soundness isn't judged, and
- * words that are no state's have 0. */
+/* Which of two waiting frames goes next: 0 neither, 1 the control frame, 2 the data frame. A length of 0 says that none waits; of the octets
+ * only the lengths are looked at. Soundness isn't judged: nothing but CRUSTNEWT_SHORT is refused, and words that are no state's have 0. */
 uint8_t crustnewt_box_next_to_send(const uint64_t *block, size_t block_words, const uint8_t *control, size_t control_octets,
                                    const uint8_t *data, size_t data_octets);
 
@@ -227,7 +226,7 @@ enum crustnewt_head_reply_word {
     CRUSTNEWT_HEAD_REPLY_NOTICES = 1, /* how many notices, 0 or 1 */
     CRUSTNEWT_HEAD_REPLY_NOTICE = 2,  /* the notice: enum crustnewt_head_notice */
     CRUSTNEWT_HEAD_REPLY_LINK = 3,    /* its link, 0 of a request */
-    CRUSTNEWT_HEAD_REPLY_TRIP = 4     /* its round trip, in quanta */
+    CRUSTNEWT_HEAD_REPLY_TRIP = 4     /* its round trip, in quanta: from the frame's timestamp on, so with what it waited at the box */
 };
 
 enum crustnewt_head_notice {
@@ -320,8 +319,7 @@ enum crustnewt_message_kind {
 /* A frame's octets read into the words of a message; CRUSTNEWT_SIZE, _KIND, _OPCODE or _RANGE where they are none. */
 uint8_t crustnewt_read(const uint8_t *octets, size_t octets_length, uint64_t *message, size_t message_words);
 
-/* The words of a message written into the first CRUSTNEWT_FRAME_OCTETS octets; CRUSTNEWT_RANGE where a word is no field's or a field is
- * outside its range. */
+/* The words of a message written into the first CRUSTNEWT_FRAME_OCTETS octets; CRUSTNEWT_RANGE where one is no field's or out of range. */
 uint8_t crustnewt_write(const uint64_t *message, size_t message_words, uint8_t *octets, size_t octets_length);
 
 /* A worked example, whole: a box that registers, comes back, and lives on a timer of 1 ms. examples/coarse.c has it on a board;
