@@ -57,33 +57,63 @@ fn a_program_without_std_is_built_and_registers_a_box() {
     assert!(!built && said.contains("panic_impl"), "{said}");
 }
 
-/// A tree of its own with the crate, the program without `std` and, in this
-/// folder of it, the library.
+/// A workspace of its own: the crate and a program that uses it.
+const WORKSPACE: &str = "members = [\"crustnewt\", \"user\"]";
+
+/// Files of the program.
+const USER: [(&str, &str); 2] = [
+    (
+        "Cargo.toml",
+        "[package]\nname = \"user\"\nedition = \"2021\"\n[dependencies]\ncrustnewt = { path = \"../crustnewt\" }\n",
+    ),
+    (
+        "src/main.rs",
+        "fn main() {\n    crustnewt::FloorBox::fresh(0x0200_0000_0031).unwrap();\n}\n",
+    ),
+];
+
+/// A tree with this workspace in its folder `host`, and the library in that
+/// folder of it.
 fn tree(name: &str, library: &str) -> PathBuf {
-    let tree = temporary(name);
-    if tree.exists() {
-        fs::remove_dir_all(&tree).unwrap();
+    let tree = emptied(name);
+    let host = tree.join("host");
+    copy_folder(Path::new("."), &host.join("crustnewt"));
+    let workspace = fs::read_to_string("../Cargo.toml").unwrap();
+    let line = |line| match str::starts_with(line, "members = ") {
+        true => WORKSPACE,
+        false => line,
+    };
+    let lines: Vec<&str> = workspace.lines().map(line).collect();
+    fs::write(host.join("Cargo.toml"), lines.join("\n")).unwrap();
+    for (file, text) in USER {
+        write(&host.join("user").join(file), text.as_bytes());
     }
-    for folder in ["host/crustnewt", "examples/bare"] {
-        copy_folder(&Path::new("../..").join(folder), &tree.join(folder));
-    }
-    fs::copy("../Cargo.toml", tree.join("host/Cargo.toml")).unwrap();
-    let library = tree.join(library);
-    fs::create_dir_all(&library).unwrap();
-    fs::write(library.join("libcrustnewt.a"), ARCHIVE).unwrap();
+    write(&tree.join(library).join("libcrustnewt.a"), ARCHIVE);
     tree
 }
 
-/// Copies a folder without what cargo has built in it.
+/// A folder of this name in which nothing is left of an earlier run.
+fn emptied(name: &str) -> PathBuf {
+    let folder = temporary(name);
+    if folder.exists() {
+        fs::remove_dir_all(&folder).unwrap();
+    }
+    folder
+}
+
+/// Writes a file, with the folders on its way.
+fn write(file: &Path, octets: &[u8]) {
+    fs::create_dir_all(file.parent().unwrap()).unwrap();
+    fs::write(file, octets).unwrap();
+}
+
 fn copy_folder(from: &Path, to: &Path) {
-    fs::create_dir_all(to).unwrap();
     for entry in fs::read_dir(from).unwrap() {
         let entry = entry.unwrap();
         let (path, copied) = (entry.path(), to.join(entry.file_name()));
-        if path.is_file() {
-            fs::copy(path, copied).unwrap();
-        } else if entry.file_name() != "target" {
-            copy_folder(&path, &copied);
+        match path.is_dir() {
+            true => copy_folder(&path, &copied),
+            false => write(&copied, &fs::read(path).unwrap()),
         }
     }
 }
@@ -91,43 +121,36 @@ fn copy_folder(from: &Path, to: &Path) {
 #[test]
 fn a_built_tree_can_be_moved() {
     let first = tree("moved-from", "target/staticlib");
-    let moved = temporary("moved-to");
-    if moved.exists() {
-        fs::remove_dir_all(&moved).unwrap();
-    }
+    let moved = emptied("moved-to");
     let build = |tree: &Path| {
-        let mut cargo = cargo_build(&tree.join("examples/bare"));
+        let mut cargo = cargo_build(&tree.join("host"));
         cargo.env_remove("CRUSTNEWT_LIB");
         let (built, said) = outcome(cargo);
         assert!(built, "{said}");
     };
     build(&first);
     fs::rename(&first, &moved).unwrap();
-    // Something to build anew, with what the crate's build has left.
-    let main = moved.join("examples/bare/src/main.rs");
-    fs::write(&main, fs::read(&main).unwrap()).unwrap();
+    // Something is built anew with what the crate's build has left.
+    write(&moved.join("host/user/src/main.rs"), USER[1].1.as_bytes());
     build(&moved);
-    assert!(runs(moved.join("examples/bare/target/debug/bare")));
+    assert!(runs(moved.join("host/target/debug/user")));
 }
 
 #[test]
 fn a_relative_folder_is_meant_from_where_the_user_stands() {
     let tree = tree("relative", "lib");
+    let host = tree.join("host");
     let build = |folder: &str, stands: &Path| {
-        let mut cargo = cargo_build(&tree.join("examples/bare"));
+        let mut cargo = cargo_build(&host);
         cargo.current_dir(stands).env("PWD", stands);
         cargo.env("CRUSTNEWT_LIB", folder);
         outcome(cargo)
     };
-    let examples = tree.join("examples");
-    let (built, said) = build("lib", &examples);
-    assert!(
-        !built && said.contains("examples/lib/libcrustnewt.a"),
-        "{said}"
-    );
-    for (folder, stands) in [("lib", &tree), ("../lib", &examples)] {
+    let (built, said) = build("lib", &host);
+    assert!(!built && said.contains("host/lib/libcrustnewt.a"), "{said}");
+    for (folder, stands) in [("lib", &tree), ("../lib", &host)] {
         let (built, said) = build(folder, stands);
         assert!(built, "{said}");
     }
-    assert!(runs(tree.join("examples/bare/target/debug/bare")));
+    assert!(runs(host.join("target/debug/user")));
 }
