@@ -465,8 +465,7 @@ fn a_night_holds_ticks_made_against_what_was_said() {
             ticks: 3 * TICKS_PER_SECOND,
             every_tick: false,
         };
-        let mut progress = Progress::new(false, options.ticks);
-        let ended = night::run(&Spoiled(flaw), &options, Vec::new(), &mut progress);
+        let ended = night::run(&Spoiled(flaw), &options, Vec::new(), Progress::nowhere());
         assert_eq!(ended.unwrap(), goes_well, "{flaw:?}");
     }
 }

@@ -12,8 +12,7 @@ use std::time::Duration;
 fn night(options: &Options) -> (bool, String) {
     let nights = CORES.iter().map(|(_, make)| {
         let mut output = Vec::new();
-        let progress = Progress::new(ProgressLine::nowhere(), options.ticks, Duration::ZERO);
-        let kept = run(&*make(), options, &mut output, progress).unwrap();
+        let kept = run(&*make(), options, &mut output, Progress::nowhere()).unwrap();
         (kept, String::from_utf8(output).unwrap())
     });
     let nights: Vec<(bool, String)> = nights.collect();

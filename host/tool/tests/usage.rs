@@ -1,9 +1,18 @@
 //! Help, version, errors and exit statuses of the program.
 
+use std::path::PathBuf;
 use std::process::{Command, Output, Stdio};
 
+/// The program beside this test: the tree may have been moved since it was
+/// built.
+fn program() -> PathBuf {
+    let test = std::env::current_exe().unwrap();
+    let profile = test.ancestors().nth(2).expect("target/PROFILE/deps/TEST");
+    profile.join("crustnewt")
+}
+
 fn crustnewt(words: &[&str]) -> Output {
-    Command::new(env!("CARGO_BIN_EXE_crustnewt"))
+    Command::new(program())
         .args(words)
         .stdin(Stdio::null())
         .output()

@@ -29,6 +29,11 @@ impl<'a> Progress<'a> {
         }
     }
 
+    /// Nobody waits.
+    pub fn nowhere() -> Progress<'a> {
+        Progress::new(ProgressLine::nowhere(), 0, Duration::ZERO)
+    }
+
     /// One step was made, which led to tick `now`.
     pub(super) fn step(&mut self, now: u64) {
         self.steps = self.steps.wrapping_add(1);
