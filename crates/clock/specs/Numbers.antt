@@ -6,6 +6,7 @@ use lib.Dec.{leb}
 use lib.IntN.{pos}
 use lib.Signed.{leZ}
 use Rattle.clock.specs.Counts.{distance}
+use Rattle.clock.specs.declared.Quanta.{Quanta}
 
 -- laser-on time 32
 abbrev pub laserOn : ℕ
@@ -38,6 +39,13 @@ inReach n = leb 1 n && leb n furthestAdvance
 -- a start is in range if its distance from now is in 0 .. 62,500,000
 unfoldable pub startInRange : ℕ → ℕ → Bool
 startInRange now start = leZ (pos 0) (distance now start) && leZ (distance now start) (pos furthest)
+
+-- a grant's length and a sync time are sixteen bits
+abbrev pub most : ℕ
+most = 65535
+
+abbrev pub fits : Quanta → Bool
+fits q = leb (q .0) most
 
 -- a frame of n octets needs (n + 24) / 2 quanta, rounded up: one is added, since `/` rounds down
 abbrev pub quantaOf : ℕ → ℕ
