@@ -93,9 +93,6 @@ impl Sieve {
 impl GrantList {
     pub const ROOM: usize = 16;
 
-    // A length is sixteen bits.
-    const LONGEST: u32 = 0xFFFF;
-
     pub fn empty() -> GrantList
         ensures { λ r. ⌜ r ≡ packed [] ⌝ }
     {
@@ -157,7 +154,7 @@ impl GrantList {
         while i < n {
             let e = entries[i];
             let length = e.length;
-            fits = fits & (length.0 <= GrantList::LONGEST);
+            fits = fits & length.fits();
             i += 1;
         }
         fits

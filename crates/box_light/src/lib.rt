@@ -59,17 +59,14 @@ pub struct LightTicked {
 }
 
 impl Light {
-    // A grant's length is sixteen bits.
-    const LONGEST: u64 = 0xFFFF;
-
     // The laser of the longest discovery grant that serves: all of it but a frame.
-    const LONGEST_WARMING: Quanta = Quanta(0xFFFF - Quanta::FRAME.0);
+    const LONGEST_WARMING: Quanta = Quanta(Quanta::MOST.0 - Quanta::FRAME.0);
 
     // A normal grant's wait: 2^31 - 1.
     const LONGEST_DUE: Quanta = Quanta(0x7FFFFFFF);
 
     // The longest grant, less the laser-on time.
-    const LONGEST_OPEN: Quanta = Quanta(0xFFFF - Quanta::LASER_ON.0);
+    const LONGEST_OPEN: Quanta = Quanta(Quanta::MOST.0 - Quanta::LASER_ON.0);
 
     // The timer of a laser that has just gone on.
     pub fn laser_on(sync: Quanta) -> Timer
@@ -240,15 +237,15 @@ impl Light {
     fn wait_fits(n: u32, sync: Quanta) -> bool
         ensures { λ r. ⌜ r ≡ waitFits n sync ⌝ }
     {
-        Quanta::needed(sync) + n as u64 <= Light::LONGEST
+        let most = Quanta::MOST;
+        Quanta::needed(sync) + n as u64 <= most.0 as u64
     }
 
     // A grant of sixteen bits, long enough for its sync.
     fn served(length: Quanta, sync: Quanta) -> bool
         ensures { λ r. ⌜ r ≡ served length sync ⌝ }
     {
-        let n = length.0 as u64;
-        (Quanta::needed(sync) <= n) & (n <= Light::LONGEST)
+        (Quanta::needed(sync) <= length.0 as u64) & length.fits()
     }
 
     // Every running timer within its longest setting; a grant that is waited for is in the list.
@@ -262,7 +259,7 @@ impl Light {
                 random,
                 sync,
             } => timer.runs(Count::FURTHEST) & Light::wait_fits(random.0, sync),
-            Light::Random { timer, sync } => timer.runs(Quanta(65535))
+            Light::Random { timer, sync } => timer.runs(Quanta::MOST)
                 & Light::wait_fits(timer.left, sync),
             Light::Warming { timer } => timer.runs(Light::LONGEST_WARMING),
             Light::Asking { timer } => timer.runs(Quanta::FRAME),

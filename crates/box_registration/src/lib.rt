@@ -37,9 +37,6 @@ pub struct Ticked {
 }
 
 impl Registration {
-    // A sync time is sixteen bits.
-    const LONGEST_SYNC: u32 = 0xFFFF;
-
     pub fn fresh() -> Registration
         ensures { λ r. ⌜ r ≡ fresh ⌝ }
     {
@@ -177,7 +174,7 @@ impl Registration {
         ensures { λ r. ⌜ r ≡ soundOf self ⌝ }
     {
         let sync = self.sync;
-        self.timed() & (sync.0 <= Registration::LONGEST_SYNC)
+        self.timed() & sync.fits()
     }
 
     fn tick_wait(self) -> Ticked
