@@ -21,7 +21,7 @@ use Rattle.frame.specs.declared.Reply.{Reply}
 use Rattle.frame.specs.declared.Reply.the-variants.{Done, Unsound}
 use Rattle.frame.specs.declared.Writing.{Writing}
 use Rattle.frame_range.specs.Fits.{fitsAddress, isIndividual}
-use Rattle.frame_range.specs.Fits.{valid-of}
+use Rattle.frame_range.specs.Laws.{valid-of}
 use Rattle.frame_writer.proofs.Page.{write-done}
 use Rattle.box_telling.specs.Told.{noFrames, handed}
 use Rattle.box_telling.specs.declared.Frames.{Frames}

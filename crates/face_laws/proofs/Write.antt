@@ -31,7 +31,7 @@ use Rattle.frame.specs.declared.RegisterReqFlag.the-variants as request
 use Rattle.frame.specs.declared.Reply.the-variants.{Done}
 use Rattle.laws.specs.Cases.{either, decided}
 use Rattle.frame_range.specs.Fits.{fitsMessage}
-use Rattle.frame_range.specs.Fits.{valid-of}
+use Rattle.frame_range.specs.Laws.{valid-of}
 use Rattle.frame_reader.specs.Decode.{few, registerReqFlagOf, registerFlagOf, registerAckFlagOf, readOf}
 use Rattle.frame_reader.proofs.Back.{carried}
 use Rattle.frame_reader.proofs.Forth.{read-encode}

@@ -5,7 +5,7 @@ use mathlib.Core.Bool.{true, false, true≢false}
 use mathlib.Core.Logic.{⊎-elim}
 use Rattle.laws.specs.Cases.{decided}
 use Rattle.frame_range.specs.Fits.{fitsMessage}
-use Rattle.frame_range.specs.Fits.{valid-of, of-valid}
+use Rattle.frame_range.specs.Laws.{valid-of, of-valid}
 use Rattle.frame.specs.Layout.{encode}
 use Rattle.frame.specs.Range.{Valid, Typed}
 use Rattle.frame.specs.Writing.{Writes, written, refused}

@@ -9,7 +9,7 @@ use native.Mathlib.Omega.{arith}
 use lib.ListN.{length, length-append}
 use Rattle.frame.specs.declared.Message.{Message}
 use Rattle.frame_range.specs.Fits.{fitsAddress, fitsMessage}
-use Rattle.frame_range.specs.Fits.{valid-of}
+use Rattle.frame_range.specs.Laws.{valid-of}
 use Rattle.lent.specs.Folds.{each}
 use Rattle.head_links.specs.declared.Link.{Link}
 use Rattle.head_links.specs.declared.Sent.{Sent}

@@ -6,7 +6,7 @@ use mathlib.Core.Bool.{true, false}
 use Rattle.frame.specs.Range.{Valid}
 use Rattle.frame.specs.Ways.{goesToHead}
 use Rattle.frame.specs.declared.Message.{Message}
-use Rattle.frame_range.specs.Fits.{of-valid}
+use Rattle.frame_range.specs.Laws.{of-valid}
 use Rattle.box_calls.specs.Answer.{accepted}
 use Rattle.box_calls.specs.Box.{tickOf}
 use Rattle.box_calls.specs.Hear.{isFor, heardOf, hearOf}

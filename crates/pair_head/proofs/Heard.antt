@@ -20,7 +20,7 @@ use Rattle.frame.specs.declared.Grants.the-variants.{None}
 use Rattle.frame.specs.declared.Message.{Message}
 use Rattle.frame.specs.declared.RegisterAckFlag.{RegisterAckFlag}
 use Rattle.frame.specs.declared.Reply.the-variants.{Done}
-use Rattle.frame_range.specs.Fits.{of-valid}
+use Rattle.frame_range.specs.Laws.{of-valid}
 use Rattle.head_state.specs.declared.Head.{Head}
 use Rattle.head_links.specs.Link.{isHeld, isRegistered}
 use Rattle.head_links.specs.declared.Link.{Link}
