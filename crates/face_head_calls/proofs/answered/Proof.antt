@@ -30,7 +30,7 @@ same-length-3 c = search needs
 returns : tie.Need-returns
 returns c =
     let a = c .before .before .before .before .before .before .before .before .before .before .before .before .before .before .before .before .before .args in
-    answered-whole (a .request) (a .head .now) (a .links .now) (a .out .now) _ _ _ _ _ _
+    answered-whole (a .call) (a .head .now) (a .links .now) (a .out .now) _ _ _ _ _ _
     (c .before .before .before .before .before .before .before .before .before .before .before .before .load-head .ensures)
     (c .before .before .before .before .before .before .before .before .before .before .before .links-in .ensures)
     (c .before .before .before .before .before .before .before .before .lend-all .ensures)

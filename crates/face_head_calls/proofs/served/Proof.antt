@@ -30,7 +30,7 @@ same-length-4 c = search needs
 returns : tie.Need-returns
 returns c =
     let a = c .before .before .before .before .before .before .before .before .before .before .before .before .before .before .before .before .before .before .before .before .args in
-    served-whole (a .request) (a .head .now) (a .links .now) (a .out .now) (a .reply .now) _ _ _ _ _ _ _
+    served-whole (a .call) (a .head .now) (a .links .now) (a .out .now) (a .reply .now) _ _ _ _ _ _ _
     (c .before .before .before .before .before .before .before .before .before .before .before .before .before .before .before .is-lent .ensures)
     (c .before .before .before .before .before .before .before .before .before .before .before .before .before .before .if1 .taken)
     (c .before .before .before .before .before .before .before .before .before .before .answered .ensures)
