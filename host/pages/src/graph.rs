@@ -1,210 +1,85 @@
 //! Who mentions whom.
 
-use crate::mention::{self, Mention};
-use crate::page::{Import, Item, Kind};
-use crate::token::Token;
+use crate::mention::{mentions, names, Mention};
+use crate::scope::{Scope, Thing};
+use crate::source::Function;
 use crate::tree::Tree;
 use std::collections::{BTreeMap, BTreeSet};
 
-/// What a name stands for.
-#[derive(Clone, Debug, PartialEq, Eq, PartialOrd, Ord)]
-pub enum Thing {
-    /// A declaration: its page and its place there.
-    Item(usize, usize),
-    /// A type of a crate's code.
-    Type(String, String),
-    /// Something of the kit's library.
-    Library,
-    /// Something that the kit makes of a crate's code.
-    Made(String),
-}
-
-/// What each declaration mentions.
-pub struct Graph {
+/// What a declaration mentions.
+#[derive(Default)]
+pub struct Node {
     /// By its type.
-    pub heads: BTreeMap<Thing, BTreeSet<Thing>>,
+    pub head: BTreeSet<Thing>,
     /// By its clauses.
-    pub bodies: BTreeMap<Thing, BTreeSet<Thing>>,
-    /// Names that are not found, and names that are bound where a crate's definition of that name is in scope.
+    pub body: BTreeSet<Thing>,
+    /// Names that nothing brings in, and names that it binds although a declaration has them: what it mentions isn't sure.
     pub doubts: Vec<String>,
-    /// Names that are bound where a definition of that name is in scope.
-    pub shadows: Vec<String>,
 }
 
-/// What names stand for on one page.
-pub struct Scope {
-    names: BTreeMap<String, Thing>,
-    parts: BTreeMap<String, Thing>,
-    modules: BTreeMap<String, Vec<String>>,
-    constructors: BTreeSet<String>,
-}
-
-impl Scope {
-    fn add(&mut self, name: &str, thing: Thing) {
-        for part in name.split('_').filter(|part| !part.is_empty() && name.contains('_')) {
-            self.parts.insert(part.to_string(), thing.clone());
-        }
-        self.names.insert(name.to_string(), thing);
-    }
-
-    fn find(&self, name: &str) -> Vec<Thing> {
-        if let Some(thing) = self.names.get(name).or_else(|| self.parts.get(name)) {
-            return vec![thing.clone()];
-        }
-        if !name.contains('_') {
-            return Vec::new();
-        }
-        name.split('_').filter_map(|part| self.parts.get(part)).cloned().collect()
-    }
-}
-
-/// What a name of a module stands for.
-pub fn named(tree: &Tree, path: &[String], name: &str) -> Result<Thing, String> {
-    let Some(first) = path[0].strip_prefix("Rattle·") else {
-        return Ok(Thing::Library);
-    };
-    let owner = first.trim_end_matches("·specs").trim_end_matches("·proofs");
-    if path.get(2).is_some_and(|part| part == "declared") {
-        let of = path.get(3).map_or(name, |part| part.as_str());
-        return Ok(Thing::Type(owner.to_string(), of.to_string()));
-    }
-    let module = path[1..].join(".");
-    let Some(place) = tree.place(owner, &module) else {
-        return Ok(Thing::Made(format!("{owner}.{module}")));
-    };
-    let page = &tree.files[place].page;
-    if let Some(at) = page.items.iter().position(|item| item.kind != Kind::Open && declares(item, name)) {
-        return Ok(Thing::Item(place, at));
-    }
-    for import in page.imports.iter().filter(|import| import.passed_on) {
-        if let Some((from, _)) = import.names.iter().find(|(_, to)| to == name) {
-            return named(tree, &import.path, from);
-        }
-    }
-    Err(format!("{} has no `{name}`", tree.files[place].path))
-}
-
-fn declares(item: &Item, name: &str) -> bool {
-    item.name == name || item.others.iter().any(|other| other == name)
-}
-
-fn is_constructor(tree: &Tree, import: &Import, name: &str, thing: &Thing) -> bool {
-    match thing {
-        Thing::Item(place, at) => tree.files[*place].page.items[*at].name != name,
-        Thing::Type(_, _) => import.path.last().is_some_and(|part| part == "the-variants"),
-        Thing::Library => name.starts_with(|c: char| c.is_lowercase() || !c.is_alphabetic()),
-        Thing::Made(_) => false,
-    }
-}
-
-/// What these `use` lines bring in.
-pub fn scope(tree: &Tree, imports: &[Import], doubts: &mut Vec<String>) -> Scope {
-    let mut scope = Scope {
-        names: BTreeMap::new(),
-        parts: BTreeMap::new(),
-        modules: BTreeMap::new(),
-        constructors: BTreeSet::new(),
-    };
-    for import in imports {
-        if let Some(module) = &import.module {
-            scope.modules.insert(module.clone(), import.path.clone());
-        }
-        for (from, to) in &import.names {
-            match named(tree, &import.path, from) {
-                Ok(thing) => {
-                    if is_constructor(tree, import, from, &thing) && thing != Thing::Library {
-                        scope.constructors.insert(to.clone());
-                    }
-                    scope.add(to, thing);
-                }
-                Err(why) => doubts.push(why),
-            }
-        }
-    }
-    scope
-}
-
-/// What a page's names stand for on it.
-pub fn page_scope(tree: &Tree, place: usize, doubts: &mut Vec<String>) -> Scope {
-    let page = &tree.files[place].page;
-    let mut scope = scope(tree, &page.imports, doubts);
-    for (at, item) in page.items.iter().enumerate() {
-        let thing = Thing::Item(place, at);
-        if item.kind != Kind::Open {
-            scope.add(&item.name, thing.clone());
-        }
-        for other in &item.others {
-            if item.kind == Kind::Type {
-                scope.constructors.insert(other.clone());
-            }
-            scope.add(other, thing.clone());
-        }
-    }
-    scope
-}
-
-/// What a mention stands for.
-fn resolve(tree: &Tree, scope: &Scope, mention: &Mention, doubts: &mut Vec<String>) -> Vec<Thing> {
-    let whole = mention[0].starts_with("Rattle·");
-    if mention.len() > 1 && (whole || scope.modules.contains_key(&mention[0])) {
-        let mut path = scope.modules.get(&mention[0]).cloned().unwrap_or_else(|| vec![mention[0].clone()]);
-        path.extend_from_slice(&mention[1..mention.len() - 1]);
-        return match named(tree, &path, &mention[mention.len() - 1]) {
-            Ok(thing) => vec![thing],
-            Err(why) => {
-                doubts.push(why);
-                Vec::new()
-            }
-        };
-    }
-    scope.find(&mention[0])
-}
-
-/// Reads the words of a contract.
-pub fn contract(tree: &Tree, scope: &Scope, words: &[Token], parameters: &BTreeSet<String>, doubts: &mut Vec<String>) -> BTreeSet<Thing> {
-    let mut found = BTreeSet::new();
-    mention::collect(words, parameters, &mut found);
-    found.iter().flat_map(|mention| resolve(tree, scope, mention, doubts)).collect()
+/// Every declaration.
+#[derive(Default)]
+pub struct Graph {
+    /// By the declaration.
+    pub nodes: BTreeMap<Thing, Node>,
+    /// What was not understood.
+    pub errors: Vec<String>,
 }
 
 impl Graph {
     /// Reads every page.
     pub fn of(tree: &Tree) -> Graph {
-        let mut graph = Graph {
-            heads: BTreeMap::new(),
-            bodies: BTreeMap::new(),
-            doubts: Vec::new(),
-            shadows: Vec::new(),
-        };
-        for place in 0..tree.files.len() {
-            graph.add_page(tree, place);
+        let mut graph = Graph::default();
+        for (place, file) in tree.files.iter().enumerate() {
+            let scope = Scope::of_page(tree, place);
+            let unread = file
+                .page
+                .unread
+                .iter()
+                .map(|(line, what)| (line, what.to_string()));
+            let missing = scope
+                .missing
+                .iter()
+                .map(|(line, name)| (line, format!("there is no {name}")));
+            let errors = unread
+                .chain(missing)
+                .map(|(line, what)| format!("{}:{line}: {what}", file.path));
+            graph.errors.extend(errors);
+            for at in 0..file.page.items.len() {
+                graph
+                    .nodes
+                    .insert(Thing::Item(place, at), node(tree, &scope, place, at));
+            }
         }
         graph
     }
+}
 
-    fn add_page(&mut self, tree: &Tree, place: usize) {
-        let file = &tree.files[place];
-        for (line, what) in &file.page.unread {
-            self.doubts.push(format!("{}:{line}: {what}", file.path));
-        }
-        let scope = page_scope(tree, place, &mut self.doubts);
-        for (at, item) in file.page.items.iter().enumerate() {
-            let found = mention::mentions(&file.page, item, &|word| scope.constructors.contains(word));
-            let mut things = |from: &BTreeSet<Mention>| -> BTreeSet<Thing> {
-                from.iter().flat_map(|mention| resolve(tree, &scope, mention, &mut self.doubts)).collect()
-            };
-            let (head, body) = (things(&found.head), things(&found.body));
-            self.heads.insert(Thing::Item(place, at), head);
-            self.bodies.insert(Thing::Item(place, at), body);
-            self.note_shadows(file, item, &found.bound, &scope);
-        }
+fn node(tree: &Tree, scope: &Scope, place: usize, at: usize) -> Node {
+    let page = &tree.files[place].page;
+    let found = mentions(page, &page.items[at], &|word| scope.is_constructor(word));
+    let things = |from: &BTreeSet<Mention>| {
+        from.iter()
+            .flat_map(|mention| scope.find(tree, mention))
+            .collect()
+    };
+    let all = found.head.iter().chain(&found.body);
+    let unknown = all.filter(|mention| scope.find(tree, mention).is_empty());
+    let unknown =
+        unknown.map(|mention| format!("mentions `{}`, which nothing brings in", mention.join(".")));
+    let hidden = found.bound.iter().filter(|name| scope.is_item(name));
+    let hidden = hidden.map(|name| format!("binds `{name}`, the name of a declaration"));
+    Node {
+        head: things(&found.head),
+        body: things(&found.body),
+        doubts: unknown.chain(hidden).collect(),
     }
+}
 
-    fn note_shadows(&mut self, file: &crate::tree::File, item: &Item, bound: &BTreeSet<String>, scope: &Scope) {
-        for name in bound {
-            if let Some(Thing::Item(_, _)) = scope.names.get(name) {
-                self.shadows.push(format!("{}:{}: `{}` binds `{name}`", file.path, item.first, item.name));
-            }
-        }
-    }
+/// What the contract of a function mentions.
+pub fn promised(tree: &Tree, scope: &Scope, function: &Function) -> BTreeSet<Thing> {
+    let found = names(&function.contract).into_iter();
+    let free = found.filter(|mention| !function.parameters.contains(&mention[0]));
+    free.flat_map(|mention| scope.find(tree, &mention))
+        .collect()
 }

@@ -1,133 +1,167 @@
 //! What must be believed: all that public promises and statements reach.
 
-use crate::graph::{self, Graph, Thing};
-use crate::page::Kind;
-use crate::reading::{link, quoted, Row};
+use crate::graph::{promised, Graph};
+use crate::page::{Item, Kind};
+use crate::reading::{Named, Reading, READING};
+use crate::scope::{Scope, Thing};
 use crate::tree::Tree;
 use std::collections::{BTreeMap, BTreeSet};
+
+/// The crate whose functions a program links.
+pub const ARCHIVE: &str = "crustnewt";
 
 /// Why something is reached.
 #[derive(Clone, Copy, Debug, PartialEq, Eq, PartialOrd, Ord)]
 pub enum Why {
     /// By a promise of the archive.
-    Face,
-    /// By a promise of a crate that it is made of.
-    Inner,
+    Archive,
+    /// By a promise of a crate below it.
+    Below,
     /// By a statement.
     Statement,
 }
 
-/// What is reached, and from where first.
+/// What is reached.
+#[derive(Default)]
 pub struct Reach {
-    /// What reached each, and why.
+    /// Each, with what reached it first, for each reason.
     pub found: BTreeMap<Thing, BTreeMap<Why, String>>,
-    /// The theorems whose types alone are read.
-    pub theorems: BTreeSet<Thing>,
-    /// The statements.
+    /// Statements.
     pub statements: BTreeSet<Thing>,
-    /// What went wrong.
-    pub doubts: Vec<String>,
-}
-
-/// A definition that is shaped like the code, what it is tied to, and the theorem.
-pub struct Tie {
-    /// The line in the list.
-    pub line: usize,
-    /// Shaped like the code.
-    pub shaped: Vec<Thing>,
-    /// What is believed in its place.
-    pub pages: Vec<Thing>,
+    /// Those of them that are theorems: their types alone are read.
+    pub theorems: BTreeSet<Thing>,
+    /// Definitions that are shaped like the code, and what is believed in their place.
+    pub ties: BTreeMap<Thing, BTreeSet<Thing>>,
+    /// The crates that promises and statements rest on.
+    pub product: BTreeSet<String>,
+    /// What the list names and isn't there.
+    pub errors: Vec<String>,
 }
 
 impl Reach {
-    /// Follows everything from the promises of these crates and the statements of the list.
-    pub fn of(tree: &Tree, graph: &Graph, rows: &[Row]) -> Reach {
-        let mut reach = Reach {
-            found: BTreeMap::new(),
-            theorems: BTreeSet::new(),
-            statements: BTreeSet::new(),
-            doubts: Vec::new(),
-        };
-        let ties = reach.ties(tree, rows);
-        let mut roots = reach.stated(tree, graph, rows);
-        roots.extend(reach.promised(tree));
+    /// Follows all that the promises and the list's statements mention.
+    pub fn of(tree: &Tree, graph: &Graph, reading: &Reading) -> Reach {
+        let mut reach = Reach::default();
+        reach.tie(tree, graph, reading);
+        let mut roots = reach.stated(tree, graph, reading);
+        roots.extend(reach.promises(tree));
         for (why, thing, from) in roots {
-            reach.follow(tree, graph, &ties, why, thing, from);
+            reach.follow(tree, graph, why, (thing, from));
         }
         reach
     }
 
-    fn find(&mut self, tree: &Tree, row: &Row, cell: &str) -> Vec<Thing> {
-        let Some(path) = link(cell).or_else(|| link(&row.cells[0])) else {
-            self.doubts.push(format!("docs/READING.md:{}: no link", row.line));
-            return Vec::new();
-        };
-        let Some(place) = tree.files.iter().position(|file| file.path == path) else {
-            self.doubts.push(format!("docs/READING.md:{}: there is no page {path}", row.line));
+    fn tie(&mut self, tree: &Tree, graph: &Graph, reading: &Reading) {
+        for tie in &reading.ties {
+            let shaped = self.items(tree, tie.line, &tie.shaped);
+            let pages = self.items(tree, tie.line, &tie.page);
+            for theorem in self.items(tree, tie.line, &tie.theorem) {
+                let said = &graph.nodes[&theorem].head;
+                for missing in shaped
+                    .iter()
+                    .chain(&pages)
+                    .filter(|thing| !said.contains(thing))
+                {
+                    let (theorem, missing) = (shown(tree, &theorem), shown(tree, missing));
+                    self.errors.push(format!(
+                        "{READING}:{}: {theorem} doesn't say {missing}",
+                        tie.line
+                    ));
+                }
+                for thing in &shaped {
+                    let others = said.iter().filter(|other| !shaped.contains(other));
+                    self.ties
+                        .entry(thing.clone())
+                        .or_default()
+                        .extend(others.cloned());
+                }
+            }
+        }
+    }
+
+    /// The declarations that the list names.
+    fn items(&mut self, tree: &Tree, line: usize, named: &Named) -> Vec<Thing> {
+        let Some(place) = tree.page_at(&named.path) else {
+            self.errors
+                .push(format!("{READING}:{line}: there is no page {}", named.path));
             return Vec::new();
         };
         let items = &tree.files[place].page.items;
         let mut found = Vec::new();
-        for name in quoted(cell) {
-            match items.iter().position(|item| item.name == name && item.kind != Kind::Open) {
+        for name in &named.names {
+            match items.iter().position(|item| item.name == *name) {
                 Some(at) => found.push(Thing::Item(place, at)),
-                None => self.doubts.push(format!("docs/READING.md:{}: {path} has no `{name}`", row.line)),
+                None => self
+                    .errors
+                    .push(format!("{READING}:{line}: {} has no `{name}`", named.path)),
             }
         }
         found
     }
 
-    fn ties(&mut self, tree: &Tree, rows: &[Row]) -> BTreeMap<Thing, Vec<Thing>> {
-        let mut ties = BTreeMap::new();
-        for row in rows.iter().filter(|row| row.heading == "Tied" && row.cells.len() >= 4) {
-            let shaped = self.find(tree, row, &format!("{} {}", row.cells[0], row.cells[1]));
-            let pages = self.find(tree, row, &row.cells[2]);
-            let _ = self.find(tree, row, &row.cells[3]);
-            for thing in shaped {
-                ties.insert(thing, pages.clone());
-            }
-        }
-        ties
-    }
-
-    fn stated(&mut self, tree: &Tree, graph: &Graph, rows: &[Row]) -> Vec<(Why, Thing, String)> {
+    fn stated(
+        &mut self,
+        tree: &Tree,
+        graph: &Graph,
+        reading: &Reading,
+    ) -> Vec<(Why, Thing, String)> {
         let mut roots = Vec::new();
-        for row in rows.iter().filter(|row| row.heading == "Statements") {
-            for thing in self.find(tree, row, &row.cells[1]) {
-                let Thing::Item(place, at) = &thing else { continue };
-                let item = &tree.files[*place].page.items[*at];
-                let from = format!("statement {}", item.name);
+        for (line, named) in &reading.statements {
+            for thing in self.items(tree, *line, named) {
+                let from = shown(tree, &thing);
                 self.statements.insert(thing.clone());
-                if item.kind == Kind::Type || is_type(item) {
-                    roots.push((Why::Statement, thing.clone(), from));
+                if item(tree, &thing).is_some_and(Item::is_type) {
+                    roots.push((Why::Statement, thing, "the list".into()));
                 } else {
-                    self.theorems.insert(thing.clone());
-                    roots.extend(graph.heads[&thing].iter().map(|next| (Why::Statement, next.clone(), from.clone())));
+                    let said = graph.nodes[&thing].head.iter();
+                    roots.extend(said.map(|next| (Why::Statement, next.clone(), from.clone())));
+                    self.theorems.insert(thing);
                 }
             }
         }
         roots
     }
 
-    fn promised(&mut self, tree: &Tree) -> Vec<(Why, Thing, String)> {
-        let mut owners: BTreeSet<String> = self.statements.iter().filter_map(|thing| owner(tree, thing)).collect();
-        owners.insert("crustnewt".into());
-        let library = tree.below(&owners);
+    fn promises(&mut self, tree: &Tree) -> Vec<(Why, Thing, String)> {
+        let mut tops = BTreeSet::from([ARCHIVE.to_string()]);
+        tops.extend(
+            self.statements
+                .iter()
+                .filter_map(|thing| owner(tree, thing)),
+        );
+        self.product = tree.below(&tops);
         let mut roots = Vec::new();
-        for code in tree.code.iter().filter(|code| library.contains(&code.owner)) {
-            let why = if code.owner == "crustnewt" { Why::Face } else { Why::Inner };
-            let scope = graph::scope(tree, &code.source.imports, &mut self.doubts);
-            for function in code.source.functions.iter().filter(|function| function.public) {
-                let things = graph::contract(tree, &scope, &function.contract, &function.parameters, &mut self.doubts);
+        for code in tree
+            .code
+            .iter()
+            .filter(|code| self.product.contains(&code.owner))
+        {
+            let why = if code.owner == ARCHIVE {
+                Why::Archive
+            } else {
+                Why::Below
+            };
+            let scope = Scope::of_imports(tree, &code.source.imports);
+            let missing = scope.missing.iter();
+            self.errors.extend(
+                missing.map(|(line, name)| format!("{}:{line}: there is no {name}", code.path)),
+            );
+            for function in code
+                .source
+                .functions
+                .iter()
+                .filter(|function| function.public)
+            {
                 let from = format!("{}::{}", code.owner, function.name);
-                roots.extend(things.into_iter().map(|thing| (why, thing, from.clone())));
+                let things = promised(tree, &scope, function).into_iter();
+                roots.extend(things.map(|thing| (why, thing, from.clone())));
             }
         }
         roots
     }
 
-    fn follow(&mut self, tree: &Tree, graph: &Graph, ties: &BTreeMap<Thing, Vec<Thing>>, why: Why, thing: Thing, from: String) {
-        let mut waiting = vec![(thing, from)];
+    fn follow(&mut self, tree: &Tree, graph: &Graph, why: Why, root: (Thing, String)) {
+        let mut waiting = vec![root];
         while let Some((thing, from)) = waiting.pop() {
             let reached = self.found.entry(thing.clone()).or_default();
             if reached.contains_key(&why) {
@@ -135,9 +169,12 @@ impl Reach {
             }
             reached.insert(why, from);
             let name = shown(tree, &thing);
-            let next: Vec<Thing> = match (&thing, ties.get(&thing)) {
-                (_, Some(pages)) => pages.clone(),
-                (Thing::Item(_, _), None) => graph.heads[&thing].iter().chain(&graph.bodies[&thing]).cloned().collect(),
+            let next = match (&thing, self.ties.get(&thing)) {
+                (_, Some(pages)) => pages.iter().cloned().collect(),
+                (Thing::Item(_, _), None) => {
+                    let node = &graph.nodes[&thing];
+                    node.head.union(&node.body).cloned().collect()
+                }
                 (Thing::Type(owner, of), None) => self.fields(tree, owner, of),
                 _ => Vec::new(),
             };
@@ -149,26 +186,39 @@ impl Reach {
     fn fields(&mut self, tree: &Tree, owner: &str, name: &str) -> Vec<Thing> {
         for code in tree.code.iter().filter(|code| code.owner == owner) {
             let types = &code.source.types;
-            let Some(found) = types.iter().find(|of| of.name == name) else { continue };
-            let own = types.iter().filter(|of| found.words.contains(&of.name)).map(|of| (owner.to_string(), of.name.clone()));
-            let others = code.source.uses.iter().filter(|(_, of)| found.words.contains(of)).cloned();
-            return own.chain(others).map(|(owner, of)| Thing::Type(owner, of)).collect();
+            let Some(found) = types.iter().find(|of| of.name == name) else {
+                continue;
+            };
+            let own = types.iter().map(|of| (owner, &of.name));
+            let others = code
+                .source
+                .uses
+                .iter()
+                .map(|(owner, of)| (owner.as_str(), of));
+            let all = own
+                .chain(others)
+                .filter(|(_, of)| found.words.contains(*of));
+            return all
+                .map(|(owner, of)| Thing::Type(owner.into(), of.clone()))
+                .collect();
         }
-        self.doubts.push(format!("crates/{owner}/src has no type `{name}`"));
+        self.errors
+            .push(format!("crates/{owner}/src has no type `{name}`"));
         Vec::new()
     }
 }
 
-/// Whether what is defined is itself a type: a statement.
-fn is_type(item: &crate::page::Item) -> bool {
-    let words: Vec<&str> = item.head.iter().map(|t| t.text.as_str()).collect();
-    words.len() >= 2 && words[words.len() - 2] == "Type"
+/// A declaration; nothing of what is none, or of an `open` line.
+pub fn item<'a>(tree: &'a Tree, thing: &Thing) -> Option<&'a Item> {
+    let Thing::Item(place, at) = thing else {
+        return None;
+    };
+    Some(&tree.files[*place].page.items[*at]).filter(|item| item.kind != Kind::Open)
 }
 
 fn owner(tree: &Tree, thing: &Thing) -> Option<String> {
     match thing {
         Thing::Item(place, _) => Some(tree.files[*place].owner.clone()),
-        Thing::Type(owner, _) => Some(owner.clone()),
         _ => None,
     }
 }
@@ -178,7 +228,7 @@ pub fn shown(tree: &Tree, thing: &Thing) -> String {
     match thing {
         Thing::Item(place, at) => {
             let file = &tree.files[*place];
-            format!("{}::{}.{}", file.owner, file.module, file.page.items[*at].name)
+            format!("{}::{}", file.owner, file.page.items[*at].name)
         }
         Thing::Type(owner, name) => format!("{owner}::{name}"),
         Thing::Library => "the kit's library".into(),

@@ -1,35 +1,33 @@
-//! Code in Rattle: the types that it declares, and what its public functions promise.
+//! Code in Rattle: its types, and what its functions promise.
 
-use crate::page::Import;
+use crate::import::Import;
 use crate::token::{depths, line_tokens, Token};
 use std::collections::BTreeSet;
 
 /// A struct or an enum.
-#[derive(Clone, Debug)]
-pub struct TypeDeclaration {
+#[derive(Clone, Debug, PartialEq, Eq)]
+pub struct Declared {
     /// Its name.
     pub name: String,
-    /// Its first line.
-    pub line: usize,
     /// How many lines it has, comments left out.
     pub lines: usize,
     /// The words of its fields.
     pub words: BTreeSet<String>,
 }
 
-/// A public function with its contract.
+/// A function.
 #[derive(Clone, Debug)]
 pub struct Function {
     /// Its name, behind that of its type.
     pub name: String,
     /// Its line.
     pub line: usize,
+    /// Whether other crates may call it.
+    pub public: bool,
     /// The words of its contract.
     pub contract: Vec<Token>,
-    /// Its parameters, which stand for themselves there.
+    /// What stands for itself there: its parameters and its result.
     pub parameters: BTreeSet<String>,
-    /// Whether others may call it.
-    pub public: bool,
 }
 
 /// A file of code.
@@ -37,93 +35,215 @@ pub struct Function {
 pub struct Source {
     /// What its contracts bring in.
     pub imports: Vec<Import>,
-    /// `use other::Type;`, as crate and type.
+    /// What its code brings in: crate and name.
     pub uses: Vec<(String, String)>,
     /// Its types.
-    pub types: Vec<TypeDeclaration>,
+    pub types: Vec<Declared>,
     /// Its functions.
     pub functions: Vec<Function>,
-    /// Its constants.
+    /// Its constants, behind the name of their type.
     pub constants: Vec<String>,
 }
 
-/// Reads a file of code.
-pub fn parse(text: &str) -> Source {
-    let bare: Vec<(usize, &str)> = text.lines().enumerate().map(|(at, line)| (at + 1, uncommented(line))).collect();
-    let tokens: Vec<Token> = bare.iter().flat_map(|(number, line)| line_tokens(line, *number)).collect();
-    let mut source = Source::default();
-    for (number, line) in &bare {
-        let line = line.trim();
-        if let Some(path) = line.strip_prefix("ghost use ") {
-            let tokens = line_tokens(&format!("use {}", path.trim_end_matches(';')), *number);
-            source.imports.extend(crate::page::import(&tokens));
-        } else if let Some((of, name)) = line.strip_prefix("use ").and_then(|path| path.trim_end_matches(';').split_once("::")) {
-            source.uses.push((of.to_string(), name.to_string()));
-        }
-    }
-    declarations(&tokens, &mut source);
-    source
-}
-
-fn uncommented(line: &str) -> &str {
-    line.find("//").map_or(line, |at| &line[..at])
-}
-
-fn declarations(tokens: &[Token], source: &mut Source) {
-    let depths = depths(tokens);
-    let mut owner = (String::new(), 0);
-    for at in 0..tokens.len() {
-        let next = tokens.get(at + 1).map_or("", |t| t.text.as_str());
-        let first = at == 0 || tokens[at].line != tokens[at - 1].line;
-        if depths[at] <= owner.1 && tokens[at].text == "}" {
-            owner = (String::new(), 0);
-        }
-        match tokens[at].text.as_str() {
-            "impl" if first => owner = (next.trim_end_matches('<').to_string(), depths[at]),
-            "struct" | "enum" => source.types.push(type_declaration(tokens, at)),
-            "const" => source.constants.push(next.trim_end_matches(':').to_string()),
-            "fn" => {
-                let line_start = (0..=at).rev().find(|&k| k == 0 || tokens[k].line != tokens[k - 1].line).unwrap_or(at);
-                let public = tokens[line_start..at].iter().any(|t| t.text == "pub");
-                source.functions.push(function(tokens, at, &owner.0, public));
+impl Source {
+    /// Reads a file of code.
+    pub fn parse(text: &str) -> Source {
+        let mut source = Source::default();
+        let mut tokens = Vec::new();
+        for (at, line) in text.lines().enumerate() {
+            let bare = line.split("//").next().unwrap_or("");
+            match bare.trim().split_once(' ') {
+                Some(("ghost", _)) => source.imports.extend(Import::parse(&line_tokens(
+                    bare.trim_end().trim_end_matches(';'),
+                    at + 1,
+                ))),
+                Some(("use", path)) => source.uses.extend(brought(path)),
+                _ => tokens.extend(line_tokens(bare, at + 1)),
             }
-            _ => {}
+        }
+        source.declarations(&tokens);
+        source
+    }
+
+    /// Whether it declares a type, a constant or a function of this name, with or without its type's.
+    pub fn names(&self, name: &str) -> bool {
+        let functions = self.functions.iter().map(|function| &function.name);
+        let mut behind = functions.chain(&self.constants);
+        let short = |whole: &String| whole == name || whole.rsplit("::").next() == Some(name);
+        behind.any(short) || self.types.iter().any(|of| of.name == name)
+    }
+
+    fn declarations(&mut self, tokens: &[Token]) {
+        let depths = depths(tokens);
+        let mut owner = String::new();
+        for at in 0..tokens.len() {
+            let next = tokens.get(at + 1).map_or("", |token| token.text.as_str());
+            match tokens[at].text.as_str() {
+                "}" if depths[at] == 0 => owner.clear(),
+                "impl" if depths[at] == 0 => owner = format!("{next}::"),
+                "struct" | "enum" => self.types.push(declared(&tokens[at..])),
+                "const" => self
+                    .constants
+                    .push(format!("{owner}{}", next.trim_end_matches(':'))),
+                "fn" => {
+                    let line = tokens[..at]
+                        .iter()
+                        .rev()
+                        .take_while(|token| token.line == tokens[at].line);
+                    let public = line.into_iter().any(|token| token.text == "pub");
+                    self.functions.push(function(&tokens[at..], &owner, public));
+                }
+                _ => {}
+            }
         }
     }
 }
 
-fn type_declaration(tokens: &[Token], at: usize) -> TypeDeclaration {
-    let depths = depths(&tokens[at..]);
-    let rest = &tokens[at + 1..];
-    let ends = (0..rest.len()).find(|&k| depths[k + 1] == 0 && matches!(rest[k].text.as_str(), ";" | "}"));
-    let ends = ends.unwrap_or(rest.len() - 1);
-    let inside = &rest[..=ends];
-    let lines: BTreeSet<usize> = inside.iter().map(|t| t.line).collect();
-    TypeDeclaration {
-        name: inside[0].text.trim_end_matches(|c| c == '<' || c == ':').to_string(),
-        line: tokens[at].line,
+/// `use other::Name;`
+fn brought(path: &str) -> Option<(String, String)> {
+    let (owner, name) = path.trim_end_matches(';').split_once("::")?;
+    Some((owner.to_string(), name.to_string()))
+}
+
+/// `struct Name { .. }`, `struct Name(..);` or `enum Name { .. }`.
+fn declared(tokens: &[Token]) -> Declared {
+    let depths = depths(tokens);
+    let last = |at: &usize| depths[*at] == 0 && matches!(tokens[*at].text.as_str(), ";" | "}");
+    let ends = (1..tokens.len()).find(last).unwrap_or(tokens.len() - 1);
+    let inside = &tokens[1..=ends];
+    let lines: BTreeSet<usize> = inside.iter().map(|token| token.line).collect();
+    let parts = |token: &Token| -> Vec<String> {
+        let words = token.text.split(|c: char| !c.is_alphanumeric() && c != '_');
+        words.map(str::to_string).collect()
+    };
+    Declared {
+        name: inside[0].text.clone(),
         lines: lines.len(),
-        words: inside[1..].iter().flat_map(|t| t.text.split(|c: char| !c.is_alphanumeric() && c != '_')).map(str::to_string).collect(),
+        words: inside[1..].iter().flat_map(parts).collect(),
     }
 }
 
-fn function(tokens: &[Token], at: usize, owner: &str, public: bool) -> Function {
-    let name = tokens[at + 1].text.split('<').next().unwrap_or("").to_string();
-    let depths = depths(&tokens[at..]);
-    let body = (1..depths.len()).find(|&k| {
-        let contract = matches!(tokens[at + k - 1].text.as_str(), "ensures" | "requires");
-        depths[k] == 0 && tokens[at + k].text == "{" && !contract
-    });
-    let head = &tokens[at..at + body.unwrap_or(depths.len() - 1)];
-    let contract = head.iter().position(|t| matches!(t.text.as_str(), "ensures" | "requires"));
-    let (signature, contract) = head.split_at(contract.unwrap_or(head.len()));
-    let parameters = signature.iter().filter_map(|t| t.text.strip_suffix(':')).map(str::to_string);
-    let whole = if owner.is_empty() { name } else { format!("{owner}::{name}") };
+/// `fn name(..) -> .. requires { .. } ensures { .. } { .. }`.
+fn function(tokens: &[Token], owner: &str, public: bool) -> Function {
+    let name = tokens[1].text.split('<').next().unwrap_or("");
+    let depths = depths(tokens);
+    let is_contract = |token: &Token| matches!(token.text.as_str(), "ensures" | "requires");
+    let body = (1..tokens.len())
+        .find(|&at| depths[at] == 0 && tokens[at].text == "{" && !is_contract(&tokens[at - 1]));
+    let head = &tokens[1..body.unwrap_or(tokens.len())];
+    let contract = head.iter().position(is_contract).unwrap_or(head.len());
+    let parameters = head[..contract]
+        .iter()
+        .filter_map(|token| token.text.strip_suffix(':'));
+    let words = head[contract..].iter().filter(|token| !is_contract(token));
     Function {
-        name: whole,
-        line: tokens[at].line,
-        contract: contract.to_vec(),
-        parameters: parameters.chain(["r".into(), "self".into()]).collect(),
+        name: format!("{owner}{name}"),
+        line: tokens[0].line,
         public,
+        contract: words.cloned().collect(),
+        parameters: parameters
+            .chain(["r", "self"])
+            .map(str::to_string)
+            .collect(),
+    }
+}
+
+#[cfg(test)]
+mod tests {
+    use super::*;
+
+    const TEXT: &str = "\
+ghost use a.Path.{_≡_};
+ghost use Rattle.clock.specs.Counts.{nextOf as next};
+use frame::Address;
+
+// A count.
+pub struct Count(pub u32);
+
+pub enum Event {
+    // nothing
+    Nothing,
+    At(usize, Address),
+}
+
+impl Count {
+    pub const TURN: i64 = 1 << 32;
+
+    pub fn next(self, by: u32) -> Count
+        ensures { λ r. ⌜ r ≡ next self by ⌝ }
+    {
+        Count(self.0 + by)
+    }
+
+    fn hidden(self) -> Count
+        ensures { λ r. ⌜ r ≡ self ⌝ }
+    {
+        self
+    }
+}
+
+pub extern \"C\" fn out(
+    block: &mut [u64],
+) -> u8
+    requires { ⌜ true ⌝ }
+    ensures { λ r. ⌜ r ≡ block ⌝ }
+{
+    0
+}
+";
+
+    #[test]
+    fn types_have_lines_and_words() {
+        let source = Source::parse(TEXT);
+        let found: Vec<(&str, usize)> = source
+            .types
+            .iter()
+            .map(|of| (of.name.as_str(), of.lines))
+            .collect();
+        assert_eq!(found, [("Count", 1), ("Event", 4)]);
+        assert!(source.types[1].words.contains("Address"));
+        assert_eq!(source.uses, [("frame".to_string(), "Address".to_string())]);
+    }
+
+    #[test]
+    fn functions_have_contracts() {
+        let source = Source::parse(TEXT);
+        let found: Vec<(&str, bool)> = source
+            .functions
+            .iter()
+            .map(|of| (of.name.as_str(), of.public))
+            .collect();
+        assert_eq!(
+            found,
+            [
+                ("Count::next", true),
+                ("Count::hidden", false),
+                ("out", true)
+            ]
+        );
+        assert!(source.functions[0]
+            .contract
+            .iter()
+            .any(|token| token.text == "next"));
+        assert!(!source.functions[0]
+            .contract
+            .iter()
+            .any(|token| token.text == "Count"));
+        assert!(source.functions[0].parameters.contains("by"));
+        assert!(source.functions[2]
+            .contract
+            .iter()
+            .any(|token| token.text == "true"));
+        assert_eq!(source.imports[1].names[0].1, "next");
+    }
+
+    #[test]
+    fn names_are_found() {
+        let source = Source::parse(TEXT);
+        for name in ["Count", "Count::next", "next", "TURN", "Count::TURN", "out"] {
+            assert!(source.names(name), "{name}");
+        }
+        assert!(!source.names("Address"));
+        assert!(!source.names("Event::Nothing"));
     }
 }
