@@ -10,6 +10,10 @@ use Rattle.box_grants.specs.declared.Entry.{Entry}
 use Rattle.box_grants.specs.declared.Chosen.{Chosen}
 use Rattle.box_grants.specs.declared.Chosen.the-variants.{Nothing, Due}
 
+-- grant list 16
+abbrev pub room : ℕ
+room = 16
+
 -- in the list: start and length both match
 abbrev pub same : Entry → Entry → Bool
 same a b = eqb (a .start .0) (b .start .0) && eqb (a .length .0) (b .length .0)
