@@ -4,6 +4,7 @@ use mathlib.Core.Bool.{Bool, true, _&&_}
 use mathlib.Core.List.{List, [], _∷_}
 use lib.Dec.{leb}
 use Rattle.clock.specs.Numbers.{fits}
+use Rattle.box_grants.specs.Activation.{room}
 use Rattle.box_grants.specs.Listed.{listOf}
 use Rattle.box_grants.specs.declared.Entry.{Entry}
 use Rattle.box_grants.specs.declared.GrantList.{GrantList}
@@ -13,4 +14,4 @@ inRange [] = true
 inRange (e ∷ l) = fits (e .length) && inRange l
 
 unfoldable pub soundOf : GrantList → Bool
-soundOf s = leb (s .number) 16 && inRange (listOf s)
+soundOf s = leb (s .number) room && inRange (listOf s)

@@ -73,9 +73,8 @@ impl Light {
         ensures { λ r. ⌜ r ≡ laserOnFor sync ⌝ }
     {
         let on = Quanta::LASER_ON;
-        Timer {
-            left: std::num::wrapping_add_u32(on.0, sync.0),
-        }
+        let both = std::num::wrapping_add_u32(on.0, sync.0);
+        Timer::stopped().start(Quanta(both))
     }
 
     // The rest of a grant's length, once its laser is on and has settled.
@@ -86,9 +85,8 @@ impl Light {
         let gone = on.0 as u64 + sync.0 as u64;
         let whole = length.0 as u64;
         if gone <= whole {
-            return Timer {
-                left: (whole - gone) as u32,
-            };
+            let left = (whole - gone) as u32;
+            return Timer::stopped().start(Quanta(left));
         }
         Timer::stopped()
     }
@@ -102,7 +100,7 @@ impl Light {
             let timer = Light::laser_on(sync);
             return Light::Warming { timer };
         }
-        let timer = Timer { left: n };
+        let timer = Timer::stopped().start(random);
         Light::Random { timer, sync }
     }
 
@@ -211,8 +209,7 @@ impl Light {
                 with_beam(Light::Warming { timer }, Beam::Quiet)
             }
             Light::Warming { timer: _ } => {
-                let frame = Quanta::FRAME;
-                let timer = Timer { left: frame.0 };
+                let timer = Timer::stopped().start(Quanta::FRAME);
                 with_beam(Light::Asking { timer }, Beam::Window)
             }
             Light::Asking { timer: _ } => with_beam(Light::Rest, Beam::Quiet),
