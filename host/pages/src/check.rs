@@ -5,7 +5,7 @@ use crate::reach::{item, Reach};
 use crate::reading::{Listed, Reading, READING};
 use crate::rules;
 use crate::scope::Thing;
-use crate::tree::{File, Tree};
+use crate::tree::{Code, File, Tree};
 use std::collections::{BTreeMap, BTreeSet};
 
 /// Everything that the list is held against.
@@ -68,13 +68,14 @@ impl Check<'_> {
         }
     }
 
-    /// A statement that is a type is the whole type of some theorem.
+    /// A statement that is a type is what some theorem ends with.
     fn statements(&mut self) {
         let types = self.reach.statements.difference(&self.reach.theorems);
         for thing in types.cloned().collect::<Vec<_>>() {
-            let one = BTreeSet::from([thing.clone()]);
+            let name = item(self.tree, &thing).map_or("", |item| &item.name);
             let proves = |(at, node): (&Thing, &Node)| {
-                node.head == one && item(self.tree, at).is_some_and(|item| item.head.len() == 2)
+                let theorem = item(self.tree, at).filter(|_| node.head.contains(&thing));
+                theorem.is_some_and(|theorem| theorem.says() == name)
             };
             if !self.graph.nodes.iter().any(proves) {
                 self.at(&thing, "is a statement that no theorem proves");
@@ -92,32 +93,29 @@ impl Check<'_> {
 
     /// What is reached is understood, and stands on a listed page.
     fn reached(&mut self) {
-        let pages: BTreeSet<&str> = self
-            .reading
-            .pages
-            .iter()
-            .map(|page| page.file.path.as_str())
-            .collect();
+        let pages = self.reading.pages.iter();
+        let pages: BTreeSet<&str> = pages.map(|page| page.file.path.as_str()).collect();
+        let mut unlisted: BTreeMap<&str, Vec<String>> = BTreeMap::new();
         let tied = &self.reach.ties;
-        for (thing, why) in self
-            .reach
-            .found
-            .iter()
-            .filter(|(thing, _)| !tied.contains_key(thing))
-        {
-            let Thing::Item(place, _) = thing else {
+        let reached = self.reach.found.iter();
+        for (thing, why) in reached.filter(|(thing, _)| !tied.contains_key(thing)) {
+            let (Thing::Item(place, _), Some(item)) = (thing, item(self.tree, thing)) else {
                 continue;
             };
             for doubt in &self.graph.nodes[thing].doubts {
                 self.at(thing, doubt);
             }
-            if !pages.contains(self.tree.files[*place].path.as_str()) {
+            let path = self.tree.files[*place].path.as_str();
+            if !pages.contains(path) {
                 let from = why.values().next().map_or("", String::as_str);
-                self.at(
-                    thing,
-                    &format!("is reached, by {from}, and its page isn't in {READING}"),
-                );
+                let names = unlisted.entry(path).or_default();
+                names.push(format!("`{}` (by {from})", item.name));
             }
+        }
+        for (path, names) in unlisted {
+            let names = names.join(", ");
+            let error = format!("{path}:1: isn't in {READING}, and is reached: {names}");
+            self.errors.push(error);
         }
     }
 
@@ -267,6 +265,17 @@ impl Check<'_> {
         }
     }
 
+    fn lines_of_types(&self) -> usize {
+        let is_reached = |code: &Code, name: &String| {
+            let thing = Thing::Type(code.owner.clone(), name.clone());
+            self.reach.found.contains_key(&thing)
+        };
+        let code = self.tree.code.iter();
+        let types = code.flat_map(|code| code.source.types.iter().map(move |of| (code, of)));
+        let reached = types.filter(|(code, of)| is_reached(code, &of.name));
+        reached.map(|(_, of)| of.lines).sum()
+    }
+
     fn sum(&mut self) -> Sum {
         let pages = &self.reading.pages;
         let places = pages
@@ -282,7 +291,7 @@ impl Check<'_> {
         let sum = Sum {
             lines: on_pages + stated,
             pages: pages.len(),
-            types: self.reading.types.iter().filter_map(|row| row.lines).sum(),
+            types: self.lines_of_types(),
         };
         let said = format!(
             "In all: {} lines of definitions on {} pages, and {} lines of types.",

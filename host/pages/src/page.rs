@@ -56,6 +56,16 @@ impl Item {
         lines.len()
     }
 
+    /// The first word of what its type says behind its last arrow.
+    pub fn says(&self) -> &str {
+        let depths = depths(&self.head);
+        let arrow =
+            |at: &usize| depths[*at] == 0 && matches!(self.head[*at].text.as_str(), "→" | ":");
+        let last = (0..self.head.len()).rev().find(arrow);
+        let first = last.and_then(|at| self.head.get(at + 1));
+        first.map_or("", |token| &token.text)
+    }
+
     /// Whether what is defined is itself a type, as a statement is.
     pub fn is_type(&self) -> bool {
         let ends = self
@@ -339,6 +349,14 @@ module _ (A : Type 0)
         assert!(page.items[0].public && !page.items[4].public);
         assert!(page.items[1].is_type() && !page.items[0].is_type());
         assert_eq!(page.imports.len(), 2);
+    }
+
+    #[test]
+    fn types_say_what_is_behind_the_last_arrow() {
+        let says = |text| Page::parse(text).items[0].says().to_string();
+        assert_eq!(says("t : Demand\nt = x\n"), "Demand");
+        assert_eq!(says("t : (A : B → C) → Runs A\nt = x\n"), "Runs");
+        assert_eq!(says("t : (A → B)\nt = x\n"), "(");
     }
 
     #[test]

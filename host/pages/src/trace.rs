@@ -61,22 +61,31 @@ fn check_row(
     if row.cell(1).is_empty() {
         errors.push(format!("{at} has no place"));
     }
-    for (cell, what) in [(row.cell(2), "definition"), (row.cell(3), "wrong answer")] {
-        if quoted(cell).is_empty() && !cell.starts_with("none: ") {
-            errors.push(format!(
-                "{at} names no {what}: `crate::name`, or none: and why"
-            ));
-        }
+    let known = |name: &String| exists(tree, name);
+    check_cell(&at, row.cell(2), "definition", &known, errors);
+    let refused = |name: &String| wrong.contains(name);
+    check_cell(&at, row.cell(3), "wrong answer", &refused, errors);
+}
+
+/// Names that are there, or `none: why`.
+fn check_cell(
+    at: &str,
+    cell: &str,
+    what: &str,
+    is_there: &dyn Fn(&String) -> bool,
+    errors: &mut Vec<String>,
+) {
+    if cell.starts_with("none: ") {
+        return;
     }
-    for name in quoted(row.cell(2)) {
-        if !exists(tree, &name) {
-            errors.push(format!("{at}: there is no definition `{name}`"));
-        }
+    let names = quoted(cell);
+    if names.is_empty() {
+        errors.push(format!(
+            "{at} names no {what}: `crate::name`, or none: and why"
+        ));
     }
-    for name in quoted(row.cell(3)) {
-        if !wrong.contains(&name) {
-            errors.push(format!("{at}: there is no wrong answer `{name}`"));
-        }
+    for name in names.iter().filter(|name| !is_there(name)) {
+        errors.push(format!("{at}: there is no {what} `{name}`"));
     }
 }
 
@@ -95,7 +104,17 @@ fn exists(tree: &Tree, name: &str) -> bool {
 #[cfg(test)]
 mod tests {
     use super::*;
-    use crate::tree::tests::tree;
+
+    fn tree() -> Tree {
+        let mut tree = Tree::new("clock:\n");
+        tree.add(
+            "crates/clock/specs/Counts.antt",
+            "pub isPast : A\nisPast = x\n",
+        );
+        let code = "pub struct Count(pub u32);\nimpl Count {\n    pub fn next() {\n    }\n}\n";
+        tree.add("crates/clock/src/lib.rt", code);
+        tree
+    }
 
     fn errors(text: &str) -> Vec<String> {
         let wrong = BTreeSet::from(["clock::now_is_past".to_string()]);
@@ -106,7 +125,7 @@ mod tests {
 
     #[test]
     fn what_is_there_is_silent() {
-        let text = "| R1 | here | `clock::isPast`, `clock::Count` | `clock::now_is_past` |\n| R2 | there | none: a unit | none: a unit |\n";
+        let text = "| R1 | here | `clock::isPast`, `clock::Count` | `clock::now_is_past` |\n| R2 | there | none: a unit | none: no `code` |\n";
         assert_eq!(errors(text), [""; 0]);
         assert_eq!(errors(&text.replace("isPast", "Count::next")), [""; 0]);
     }

@@ -141,51 +141,30 @@ fn walk(folder: &Path, found: &mut Vec<PathBuf>) -> io::Result<()> {
 }
 
 #[cfg(test)]
-pub(crate) mod tests {
+mod tests {
     use super::*;
 
-    /// Two crates: a clock, and an archive over it.
-    pub fn tree() -> Tree {
-        let mut tree = Tree::new("# base\nclock:\ncrustnewt: clock\nother: clock\n");
-        tree.add(
-            "crates/clock/specs/Counts.antt",
-            include_str!("../tests/tree/Counts.antt"),
-        );
-        tree.add(
-            "crates/clock/specs/Laws.antt",
-            include_str!("../tests/tree/Laws.antt"),
-        );
-        tree.add(
-            "crates/clock/proofs/Tied.antt",
-            include_str!("../tests/tree/Tied.antt"),
-        );
-        tree.add(
-            "crates/clock/src/lib.rt",
-            include_str!("../tests/tree/clock.rt"),
-        );
-        tree.add(
-            "crates/crustnewt/src/lib.rt",
-            include_str!("../tests/tree/crustnewt.rt"),
-        );
+    fn tree() -> Tree {
+        let mut tree = Tree::new("# base\nclock:\nframe: clock\nother: clock\n");
+        tree.add("crates/clock/specs/Counts.antt", "-- Rule R1: counts.\n");
+        tree.add("crates/clock/proofs/Deep/Laws.antt", "");
+        tree.add("crates/clock/src/lib.rt", "pub struct Count(pub u32);\n");
         tree
     }
 
     #[test]
     fn crates_rest_on_each_other() {
-        let tree = tree();
-        let below = tree.below(&BTreeSet::from(["crustnewt".to_string()]));
-        assert_eq!(
-            below.into_iter().collect::<Vec<_>>(),
-            ["clock", "crustnewt"]
-        );
+        let below = tree().below(&BTreeSet::from(["frame".to_string()]));
+        assert_eq!(below.into_iter().collect::<Vec<_>>(), ["clock", "frame"]);
     }
 
     #[test]
     fn pages_are_found() {
         let tree = tree();
         assert_eq!(tree.place("clock", "specs.Counts"), Some(0));
-        assert_eq!(tree.page_at("crates/clock/proofs/Tied.antt"), Some(2));
-        assert_eq!(tree.place("clock", "specs.Nothing"), None);
-        assert_eq!(tree.code.len(), 2);
+        assert_eq!(tree.place("clock", "proofs.Deep.Laws"), Some(1));
+        assert_eq!(tree.page_at("crates/clock/specs/Counts.antt"), Some(0));
+        assert_eq!(tree.place("frame", "specs.Counts"), None);
+        assert_eq!(tree.code.len(), 1);
     }
 }
