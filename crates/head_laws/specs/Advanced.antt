@@ -34,7 +34,7 @@ isDone s = eqb (numberOf (s .answer .reply)) 0
 
 abbrev pub isNone : Kind → Bool
 isNone kind.Nothing = true
-isNone kind.Call = false
+isNone kind.Request = false
 isNone kind.Registered = false
 isNone kind.Dropped = false
 isNone kind.Report = false
