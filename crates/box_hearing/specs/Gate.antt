@@ -6,10 +6,10 @@ use mathlib.Core.Bool.{true, cond, _&&_}
 use mathlib.Core.List.{List, foldl}
 use lib.Dec.{ltb}
 use Rattle.clock.specs.Numbers.{startInRange}
+use Rattle.clock.specs.declared.Span.{Span}
 use Rattle.frame.specs.declared.Grant.{Grant}
 use Rattle.box_grants.specs.Activation.{room}
 use Rattle.box_grants.specs.Listed.{pushed}
-use Rattle.box_grants.specs.declared.Entry.{Entry}
 use Rattle.box_registration.specs.Registration.{isRegistered, heard}
 use Rattle.box_telling.specs.Told.{noNotices, added}
 use Rattle.box_telling.specs.declared.Notice.{Notice}
@@ -20,7 +20,7 @@ use Rattle.box_processes.specs.declared.Step.{Step}
 use Rattle.box_hearing.specs.declared.Taking.{Taking}
 
 -- what the list keeps of a grant
-abbrev pub entryOf : Grant → Entry
+abbrev pub entryOf : Grant → Span
 entryOf g = record { start = g .start; length = g .length }
 
 unfoldable pub taken : ℕ → Taking → Grant → Taking

@@ -8,7 +8,6 @@ ghost use Rattle.face_box.specs.Laying.{howMany, layout};
 ghost use Rattle.face_box.specs.Told.{kindWords, noticeWords, toldWords};
 ghost use Rattle.face_words.specs.Words.{laid};
 use box_calls::FloorBox;
-use box_grants::Entry;
 use box_grants::GrantList;
 use box_light::Light;
 use box_processes::Processes;
@@ -18,6 +17,7 @@ use box_telling::Notice;
 use box_telling::Notices;
 use clock::Count;
 use clock::Quanta;
+use clock::Span;
 use clock::Timer;
 use frame::Address;
 
@@ -50,7 +50,7 @@ pub struct Front {
 }
 
 // A grant's start above its length.
-fn entry_word(e: Entry) -> u64
+fn entry_word(e: Span) -> u64
     ensures { λ r. ⌜ r ≡ entryWord e ⌝ }
 {
     let start = e.start;
@@ -58,10 +58,10 @@ fn entry_word(e: Entry) -> u64
     start.0 as u64 * TURN + length.0 as u64
 }
 
-pub fn entry_of(word: u64) -> Entry
+pub fn entry_of(word: u64) -> Span
     ensures { λ r. ⌜ r ≡ entryOf word ⌝ }
 {
-    Entry {
+    Span {
         start: Count((word / TURN) as u32),
         length: Quanta((word % TURN) as u32),
     }

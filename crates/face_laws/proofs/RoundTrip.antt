@@ -9,9 +9,9 @@ use native.Mathlib.Omega.{arith}
 use lib.ListN.{take, drop, replicate}
 use Rattle.clock.specs.declared.Quanta.{Quanta}
 use Rattle.clock.specs.declared.Timer.{Timer}
+use Rattle.clock.specs.Spans.{none}
+use Rattle.clock.specs.declared.Span.{Span}
 use Rattle.box_calls.specs.declared.FloorBox.{FloorBox}
-use Rattle.box_grants.specs.Listed.{none}
-use Rattle.box_grants.specs.declared.Entry.{Entry}
 use Rattle.box_light.specs.declared.Light.{Light}
 use Rattle.box_light.specs.declared.Light.the-variants.{Rest, Before, Random, Warming, Asking, Due, Lit, Open}
 use Rattle.box_registration.specs.declared.Registration.{Registration}
@@ -39,10 +39,10 @@ upper a b h = omega arith
 lower : (a b : ℕ) → b < 2 ^ 32 → (a * 2 ^ 32 + b) % 2 ^ 32 ≡ b
 lower a b h = omega arith
 
-entry-back : (e : Entry) → EntryFits e → entryOf (entryWord e) ≡ e
+entry-back : (e : Span) → EntryFits e → entryOf (entryWord e) ≡ e
 entry-back e h = rw (upper (e .start .0) (e .length .0) h, lower (e .start .0) (e .length .0) h)
 
-entries-back : (es : List Entry) → EntriesFit es → map entryOf (map entryWord es) ≡ es
+entries-back : (es : List Span) → EntriesFit es → map entryOf (map entryWord es) ≡ es
 entries-back [] h = refl
 entries-back (e ∷ es) h = rw (entry-back e (h .0), entries-back es (h .1))
 
