@@ -11,14 +11,11 @@ ghost use Rattle.face_box_pass.specs.Block.{wordsAt, boxAt, untilCall};
 ghost use Rattle.clock.specs.Numbers.{inReach};
 ghost use Rattle.face_box.specs.Box.{boxWords};
 ghost use Rattle.face_words.specs.Words.{laid};
-ghost use Rattle.box_calls.specs.Answer.{refused};
 ghost use Rattle.box_calls.specs.Box.{registerOf, deregisterOf, tickOf};
 use box_calls::Answer;
 use box_calls::FloorBox;
 use box_telling::Frames;
-use box_telling::Notices;
 use frame::Address;
-use frame::Reply;
 
 // A lent block or slice that is too short: no number of the card.
 const SHORT: u8 = 100;
@@ -133,19 +130,6 @@ fn tell_nothing(reply: &mut [u64])
     face_words::lay(&nothing, reply);
 }
 
-// A frame that the reader refuses changes nothing.
-fn refused(b: FloorBox, reply: Reply) -> Answer
-    ensures { λ r. ⌜ r ≡ refused b reply ⌝ }
-{
-    Answer {
-        reply,
-        drift: 0,
-        next: b,
-        frames: Frames::none(),
-        notices: Notices::none(),
-    }
-}
-
 fn heard(b: FloorBox, octets: &[u8], random: u32) -> Answer
     ensures { λ r. ⌜ r ≡ heardOf (now (octets .entry)) random b ⌝ }
 {
@@ -153,7 +137,7 @@ fn heard(b: FloorBox, octets: &[u8], random: u32) -> Answer
     let reply = reading.reply;
     let message = reading.message;
     if reply.number() != 0 {
-        return refused(b, reply);
+        return b.refused(reply);
     }
     b.hear(message, random)
 }
