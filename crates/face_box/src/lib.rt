@@ -7,7 +7,6 @@ ghost use Rattle.face_box.specs.Laying.{howMany, layout};
 ghost use Rattle.face_box.specs.Told.{kindWords, noticeWords, toldWords};
 ghost use Rattle.face_words.specs.Words.{laid};
 use box_calls::FloorBox;
-use box_grants::Entry;
 use box_grants::GrantList;
 use box_light::Light;
 use box_processes::Processes;
@@ -17,6 +16,7 @@ use box_telling::Notice;
 use box_telling::Notices;
 use clock::Count;
 use clock::Quanta;
+use clock::Span;
 use clock::Timer;
 use frame::Address;
 
@@ -46,7 +46,7 @@ pub struct Front {
 }
 
 // A grant's start above its length.
-fn entry_word(e: Entry) -> u64
+fn entry_word(e: Span) -> u64
     ensures { λ r. ⌜ r ≡ entryWord e ⌝ }
 {
     let start = e.start;
@@ -54,10 +54,10 @@ fn entry_word(e: Entry) -> u64
     face_words::join(start.0, length.0)
 }
 
-pub fn entry_of(word: u64) -> Entry
+pub fn entry_of(word: u64) -> Span
     ensures { λ r. ⌜ r ≡ entryOf word ⌝ }
 {
-    Entry {
+    Span {
         start: Count(face_words::upper(word)),
         length: Quanta(face_words::lower(word)),
     }

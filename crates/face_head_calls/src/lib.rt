@@ -13,12 +13,12 @@ ghost use Rattle.head_links.specs.Link.{idle};
 ghost use Rattle.face_words.specs.Words.{laid};
 use clock::Count;
 use clock::Quanta;
+use clock::Span;
 use face_words::SHORT;
 use frame::Address;
 use frame::Reply;
 use head_calls::Answer;
 use head_gating::Asked;
-use head_gating::Leave;
 use head_judging::Call;
 use head_links::Link;
 use head_state::Head;
@@ -239,17 +239,17 @@ pub fn begun(address: Address, head: &mut [u64], links: &mut [u64], reply: &mut 
 }
 
 // A grant is one word: its start above its length.
-fn leave_of(word: u64) -> Leave
+fn leave_of(word: u64) -> Span
     ensures { λ r. ⌜ r ≡ leaveOf word ⌝ }
 {
-    Leave {
+    Span {
         start: Count(face_words::upper(word)),
         length: Quanta(face_words::lower(word)),
     }
 }
 
 // A grant that isn't there is one of start 0, length 0.
-fn leave_at(grants: &[u64], i: usize) -> Leave
+fn leave_at(grants: &[u64], i: usize) -> Span
     ensures { λ r. ⌜ r ≡ leaveOf (getD (now (grants .entry)) i 0) ⌝ }
 {
     if i < grants.len() {

@@ -12,10 +12,10 @@ use lib.Dec.{eqb, ltb}
 use lib.ListN.{length, take, drop, replicate, length-take, length-drop, length-map, take-append-drop}
 use Rattle.laws.specs.Cases.{either, decided}
 use Rattle.clock.specs.Numbers.{quantaOf}
+use Rattle.clock.specs.Spans.{none}
 use Rattle.frame.specs.Card.{numberOf}
 use Rattle.frame.specs.declared.Reply.the-variants.{Done}
 use Rattle.frame_reader.specs.Decode.{readOf}
-use Rattle.box_grants.specs.Listed.{none}
 use Rattle.box_calls.specs.Answer as answers
 use Rattle.box_calls.specs.Answer.{accepted}
 use Rattle.box_calls.specs.Box.{soundOf}
