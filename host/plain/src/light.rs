@@ -69,6 +69,20 @@ pub enum Light {
 }
 
 impl Light {
+    /// Its name, as the replay language has it.
+    pub const fn name(&self) -> &'static str {
+        match self {
+            Light::Rest => "rest",
+            Light::Before { .. } => "before",
+            Light::Random { .. } => "random",
+            Light::Warming { .. } => "warming",
+            Light::Asking { .. } => "asking",
+            Light::Due { .. } => "due",
+            Light::Lit { .. } => "lit",
+            Light::Open { .. } => "open",
+        }
+    }
+
     /// Ticks left of what the transmitter does, 0 at rest.
     pub const fn left(&self) -> u32 {
         match *self {
