@@ -1,4 +1,4 @@
-//! Many ticks in one call; answers worked by hand from document 01.
+//! Many ticks in one call; answers worked by hand from the rules.
 
 use crustnewt::sys::{self, BoxMemory, HeadMemory, MOST_TICKS};
 use crustnewt::{

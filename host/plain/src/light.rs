@@ -119,7 +119,7 @@ impl Light {
         }
     }
 
-    /// Whether this is a sound transmitter beside that list ("Sound box").
+    /// Whether this is a sound transmitter beside that list (R82 to R87).
     pub(crate) fn is_sound(&self, list: &GrantList) -> bool {
         match *self {
             Light::Rest => true,
