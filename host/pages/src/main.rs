@@ -3,9 +3,10 @@
 use pages::graph::Graph;
 use pages::reach::Reach;
 use pages::reading::{Reading, READING};
+use pages::sum::Sum;
 use pages::trace::{RULES, TRACE};
 use pages::tree::Tree;
-use pages::{check, edits, report, rules, trace};
+use pages::{check, edits, report, rows, rules, trace};
 use std::path::{Path, PathBuf};
 use std::process::ExitCode;
 use std::{fs, io};
@@ -22,7 +23,7 @@ that its type and its body mention.
   reach  says of every page which of its declarations are reached (+), by a
          promise of the archive (A), a promise of a crate below it (B), a
          statement (S)
-  rows   writes the rows of the list as the crates are now
+  rows   writes the tables of the list as the crates are now, a family each
   --root DIR  the repository (default: the folder that it is run in)
 
 Exit status: 0 if nothing is wrong, 1 if something is, 2 if the command line
@@ -64,7 +65,7 @@ fn run(command: &str, root: &Path) -> io::Result<ExitCode> {
     let reach = Reach::of(&tree, &graph, &reading);
     match command {
         "reach" => println!("{}", report::reach(&tree, &reach)),
-        "rows" => println!("{}", report::rows(&tree, &reach, &reading)),
+        "rows" => println!("{}", rows::rows(&tree, &reach)),
         _ => return checked(root, &tree, &graph, &reading, &reach),
     }
     Ok(ExitCode::SUCCESS)
@@ -78,14 +79,14 @@ fn checked(
     reach: &Reach,
 ) -> io::Result<ExitCode> {
     let rules = rules::rules(&read(root, RULES)?);
-    let (mut errors, sum) = check::check(tree, graph, reading, reach, &rules);
+    let mut errors = check::check(tree, graph, reading, reach, &rules);
     let wrong = edits::wrong_answers(root)?;
     errors.extend(trace::check(tree, &read(root, TRACE)?, &rules, &wrong));
     for error in &errors {
         eprintln!("{error}");
     }
     if errors.is_empty() {
-        println!("{}", report::summary(&sum, rules.len()));
+        println!("pages: {} rules. {}", rules.len(), Sum::of(tree, reach));
         return Ok(ExitCode::SUCCESS);
     }
     eprintln!("pages: {} faults", errors.len());

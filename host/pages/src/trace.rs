@@ -1,6 +1,6 @@
 //! docs/TRACE.md: a row for each rule.
 
-use crate::page::Kind;
+use crate::item::Kind;
 use crate::table::{quoted, rows, Row};
 use crate::tree::Tree;
 use std::collections::{BTreeMap, BTreeSet};

@@ -40,7 +40,7 @@ fn errors_in(tree: &Tree, list: &str) -> Vec<String> {
     let graph = Graph::of(tree);
     let reading = Reading::parse(list);
     let reach = Reach::of(tree, &graph, &reading);
-    check(tree, &graph, &reading, &reach, &[(1, 3), (2, 4)]).0
+    check(tree, &graph, &reading, &reach, &[(1, 3), (2, 4)])
 }
 
 /// The faults of the list with a change, those that it begins with left out.
@@ -170,7 +170,7 @@ fn types_are_held() {
         [
             "docs/READING.md:27: nothing reaches a type `Timer` of crates/clock/src/lib.rt",
             "docs/READING.md:27: these types of crates/clock/src/lib.rt have 4 lines",
-            "crates/clock/src: the type `Quanta` is reached and isn't in docs/READING.md",
+            "crates/clock/src: the type `Quanta` is reached, and isn't in docs/READING.md",
         ]
     );
 }
