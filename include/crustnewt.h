@@ -59,6 +59,12 @@
 extern "C" {
 #endif
 
+/* The version of the library, as `crustnewt --version` and pkg-config tell it. */
+#define CRUSTNEWT_VERSION "0.2.0"
+#define CRUSTNEWT_VERSION_MAJOR 0
+#define CRUSTNEWT_VERSION_MINOR 2
+#define CRUSTNEWT_VERSION_PATCH 0
+
 /* How many elements to lend. */
 #define CRUSTNEWT_FRAME_OCTETS 60
 #define CRUSTNEWT_MESSAGE_WORDS 10

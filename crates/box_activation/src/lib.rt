@@ -33,7 +33,7 @@ fn begin(p: Processes, entry: Entry, sync: Quanta, wait: Quanta) -> Processes
     if n == 0 {
         return light_up(p, entry, sync);
     }
-    let timer = Timer { left: n };
+    let timer = Timer::stopped().start(wait);
     let due = Light::Due { timer, entry, sync };
     p.with_light(due)
 }

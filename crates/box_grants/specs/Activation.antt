@@ -1,4 +1,4 @@
--- Rules R85, R126 to R128, R132: the choice of a grant. The list is a list, in order of arrival.
+-- Rules R24, R85, R126 to R128, R132: the choice of a grant. The list is a list, in order of arrival.
 -- Assumes nothing.
 use Prim.Native.Nat.{ℕ, zero, suc}
 use mathlib.Core.Bool.{Bool, false, cond, _&&_, _||_}
@@ -8,6 +8,10 @@ use Rattle.clock.specs.Counts.{isPast, nearer}
 use Rattle.box_grants.specs.declared.Entry.{Entry}
 use Rattle.box_grants.specs.declared.Chosen.{Chosen}
 use Rattle.box_grants.specs.declared.Chosen.the-variants.{Nothing, Due}
+
+-- R24
+abbrev pub room : ℕ
+room = 16
 
 -- R85: start and length both match
 abbrev pub same : Entry → Entry → Bool

@@ -6,7 +6,7 @@ use mathlib.Core.List.{List, _++_}
 use lib.Dec.{ltb}
 use lib.ListN.{length, take, set, replicate}
 use Rattle.clock.specs.Counts.{isPast, nearer}
-use Rattle.box_grants.specs.Activation.{same, ahead, Left, settle}
+use Rattle.box_grants.specs.Activation.{room, same, ahead, Left, settle}
 use Rattle.box_grants.specs.declared.Entry.{Entry}
 use Rattle.box_grants.specs.declared.GrantList.{GrantList}
 use Rattle.box_grants.specs.declared.Choice.{Choice}
@@ -17,14 +17,14 @@ none = record { start = record { 0 = 0 }; length = record { 0 = 0 } }
 
 -- the list that stands in the array
 abbrev pub listOf : GrantList → List Entry
-listOf s = take (min (s .number) 16) (s .entries)
+listOf s = take (min (s .number) room) (s .entries)
 
 -- the array with a list in it, and nothing behind it
 abbrev pub packed : List Entry → GrantList
-packed l = record { entries = l ++ replicate (16 - length l) none; number = length l }
+packed l = record { entries = l ++ replicate (room - length l) none; number = length l }
 
 unfoldable pub pushed : GrantList → Entry → GrantList
-pushed s e = cond (ltb (s .number) 16) (record { entries = set (s .entries) (s .number) e; number = s .number + 1 }) s
+pushed s e = cond (ltb (s .number) room) (record { entries = set (s .entries) (s .number) e; number = s .number + 1 }) s
 
 unfoldable pub kept : ℕ → GrantList → Entry → GrantList
 kept now s e = cond (isPast now (e .start .0)) s (pushed s e)

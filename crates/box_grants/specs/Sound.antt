@@ -3,13 +3,15 @@
 use mathlib.Core.Bool.{Bool, true, _&&_}
 use mathlib.Core.List.{List, [], _∷_}
 use lib.Dec.{leb}
+use Rattle.clock.specs.Numbers.{fits}
+use Rattle.box_grants.specs.Activation.{room}
 use Rattle.box_grants.specs.Listed.{listOf}
 use Rattle.box_grants.specs.declared.Entry.{Entry}
 use Rattle.box_grants.specs.declared.GrantList.{GrantList}
 
 abbrev pub inRange : List Entry → Bool
 inRange [] = true
-inRange (e ∷ l) = leb (e .length .0) 65535 && inRange l
+inRange (e ∷ l) = fits (e .length) && inRange l
 
 unfoldable pub soundOf : GrantList → Bool
-soundOf s = leb (s .number) 16 && inRange (listOf s)
+soundOf s = leb (s .number) room && inRange (listOf s)

@@ -3,7 +3,7 @@ ghost use mathlib.Core.Path.{_≡_};
 ghost use mathlib.Core.List.{[]};
 ghost use Prim.Native.Nat.{min};
 ghost use lib.ListN.{getD};
-ghost use Rattle.box_grants.specs.Activation.{same, holds, ahead, nearest, remove};
+ghost use Rattle.box_grants.specs.Activation.{room, same, holds, ahead, nearest, remove};
 ghost use Rattle.box_grants.specs.Listed.{none, listOf, packed, pushed, kept, sifted, nearerOf, chooseOf};
 ghost use Rattle.box_grants.specs.Sound.{soundOf};
 use clock::Count;
@@ -93,8 +93,8 @@ impl Sieve {
 impl GrantList {
     pub const ROOM: usize = 16;
 
-    // A length is sixteen bits.
-    const LONGEST: u32 = 0xFFFF;
+    // What the box says of its list when it asks to register.
+    pub const PENDING: u8 = GrantList::ROOM as u8;
 
     pub fn empty() -> GrantList
         ensures { λ r. ⌜ r ≡ packed [] ⌝ }
@@ -106,7 +106,7 @@ impl GrantList {
 
     // How many are held: the number, at most sixteen.
     fn held(self) -> usize
-        ensures { λ r. ⌜ r ≡ min (self .number) 16 ⌝ }
+        ensures { λ r. ⌜ r ≡ min (self .number) room ⌝ }
     {
         let n = self.number;
         if n < GrantList::ROOM {
@@ -157,7 +157,7 @@ impl GrantList {
         while i < n {
             let e = entries[i];
             let length = e.length;
-            fits = fits & (length.0 <= GrantList::LONGEST);
+            fits = fits & length.fits();
             i += 1;
         }
         fits

@@ -6,6 +6,7 @@ use mathlib.Core.List.{List, foldl}
 use lib.Dec.{ltb}
 use Rattle.clock.specs.Numbers.{startInRange}
 use Rattle.frame.specs.declared.Grant.{Grant}
+use Rattle.box_grants.specs.Activation.{room}
 use Rattle.box_grants.specs.Listed.{pushed}
 use Rattle.box_grants.specs.declared.Entry.{Entry}
 use Rattle.box_registration.specs.Registration.{isRegistered, heard}
@@ -24,7 +25,7 @@ entryOf g = record { start = g .start; length = g .length }
 -- R123
 unfoldable pub taken : ℕ → Taking → Grant → Taking
 taken now t g =
-    cond (startInRange now (g .start .0) && ltb (t .list .number) 16)
+    cond (startInRange now (g .start .0) && ltb (t .list .number) room)
     (record { list = pushed (t .list) (entryOf g); notices = added (t .notices) (Notice.Granted g) })
     t
 

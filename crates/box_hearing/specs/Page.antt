@@ -11,6 +11,7 @@ use lib.ListN.{length, length-append}
 use Rattle.laws.specs.Cases.{decided}
 use Rattle.clock.specs.Numbers.{startInRange}
 use Rattle.frame.specs.declared.Grant.{Grant}
+use Rattle.box_grants.specs.Activation.{room}
 use Rattle.box_grants.specs.Listed.{pushed}
 use Rattle.box_grants.specs.declared.Entry.{Entry}
 use Rattle.box_grants.specs.declared.GrantList.{GrantList}
@@ -26,7 +27,7 @@ use Rattle.box_hearing.specs.declared.Taking.{Taking}
 abbrev pub takenOf : ℕ → ℕ → List Grant → List Grant
 takenOf now number [] = []
 takenOf now number (g ∷ gs) =
-    cond (startInRange now (g .start .0) && ltb number 16) (g ∷ takenOf now (number + 1) gs) (takenOf now number gs)
+    cond (startInRange now (g .start .0) && ltb number room) (g ∷ takenOf now (number + 1) gs) (takenOf now number gs)
 
 -- by a box with its count and its list
 abbrev pub takenFrom : Processes → List Grant → List Grant
@@ -58,7 +59,7 @@ module _ (now : ℕ) where
   took t g = record { list = pushed (t .list) (entryOf g); notices = added (t .notices) (Granted g) }
 
   abbrev takes : Taking → Grant → Bool
-  takes t g = startInRange now (g .start .0) && ltb (t .list .number) 16
+  takes t g = startInRange now (g .start .0) && ltb (t .list .number) room
 
   taken-yes : (t : Taking) (g : Grant) → takes t g ≡ true → taken now t g ≡ took t g
   unfolding taken

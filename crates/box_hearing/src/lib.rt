@@ -89,7 +89,7 @@ fn call(way: Reach, random: Quanta, sync: Quanta) -> Light
             if n == 0 {
                 return Light::randomly(random, sync);
             }
-            let timer = Timer { left: n };
+            let timer = Timer::stopped().start(wait);
             Light::Before {
                 timer,
                 random,

@@ -11,7 +11,7 @@ use lib.Dec.{eqb}
 use Rattle.laws.specs.Cases.{either}
 use Rattle.clock.specs.Counts.{reach}
 use Rattle.clock.specs.Laws.{reachInRange, start-reach}
-use Rattle.clock.specs.Numbers.{furthest, startInRange, needed, serves}
+use Rattle.clock.specs.Numbers.{furthest, startInRange, needed, serves, fits}
 use Rattle.clock.specs.declared.Quanta.{Quanta}
 use Rattle.clock.specs.declared.Reach.{Reach}
 use Rattle.clock.specs.declared.Reach.the-variants.{Past, Ahead}
@@ -21,7 +21,7 @@ use Rattle.frame.specs.declared.Body.the-variants.{Gate, Discovery, Report, Reg
 use Rattle.frame.specs.declared.Grant.{Grant}
 use Rattle.frame.specs.declared.RegisterFlag.{RegisterFlag}
 use Rattle.frame.specs.declared.RegisterFlag.the-variants.{Reregister, Deregister, Ack, Nack}
-use Rattle.frame_range.specs.Fits.{fitsLength, fitsGrant, fitsAll, fitsBody}
+use Rattle.frame_range.specs.Fits.{fitsGrant, fitsAll, fitsBody}
 use Rattle.box_grants.specs.declared.GrantList.{GrantList}
 use Rattle.box_light.specs.Laws.{fits-of, random-fits, before-sound, randomly-sound, sound-list}
 use Rattle.box_light.specs.Light.{atRest}
@@ -92,7 +92,7 @@ discover-keeps p grant sync own random s h =
 
 -- REGISTER
 register-keeps : (t : State) (flag : RegisterFlag) (p : Processes) (port : ℕ) (sync : Quanta) → Sound p → p .registration .state ≡ t
-    → fitsLength sync ≡ true → Sound (registerOf t flag p port sync .next)
+    → fits sync ≡ true → Sound (registerOf t flag p port sync .next)
 register-keeps RegisterReq Ack p port sync s e h = moved p s (registered port sync) (registered-sound port sync h) (rw e) refl
 register-keeps RegisterReq Nack p port sync s e h = waiting-keeps p s
 register-keeps RegisterReq Reregister p port sync s e h = s
@@ -109,7 +109,7 @@ pub hear-keeps : (body : Body) (p : Processes) (own : Bool) (random : ℕ) → S
     → Sound (hearOf body p own random .next)
 hear-keeps (Gate grants) p own random s h = gated-keeps p (listed grants) s h
 hear-keeps (Discovery grant sync) p own random s h =
-    discover-keeps p grant sync own random s (and-eq-true-iff (fitsGrant grant) (fitsLength sync) .0 h .0)
+    discover-keeps p grant sync own random s (and-eq-true-iff (fitsGrant grant) (fits sync) .0 h .0)
 hear-keeps (Register port flag sync pending) p own random s h = register-keeps (p .registration .state) flag p port sync s refl h
 hear-keeps Report p own random s h = s
 hear-keeps (Request flag pending) p own random s h = s

@@ -59,26 +59,22 @@ pub struct LightTicked {
 }
 
 impl Light {
-    // A grant's length is sixteen bits.
-    const LONGEST: u64 = 0xFFFF;
-
     // The laser of the longest discovery grant that serves: all of it but a frame.
-    const LONGEST_WARMING: Quanta = Quanta(0xFFFF - Quanta::FRAME.0);
+    const LONGEST_WARMING: Quanta = Quanta(Quanta::MOST.0 - Quanta::FRAME.0);
 
     // A normal grant's wait: 2^31 - 1.
     const LONGEST_DUE: Quanta = Quanta(0x7FFFFFFF);
 
     // The longest grant, less the laser-on time.
-    const LONGEST_OPEN: Quanta = Quanta(0xFFFF - Quanta::LASER_ON.0);
+    const LONGEST_OPEN: Quanta = Quanta(Quanta::MOST.0 - Quanta::LASER_ON.0);
 
     // The timer of a laser that has just gone on.
     pub fn laser_on(sync: Quanta) -> Timer
         ensures { λ r. ⌜ r ≡ laserOnFor sync ⌝ }
     {
         let on = Quanta::LASER_ON;
-        Timer {
-            left: std::num::wrapping_add_u32(on.0, sync.0),
-        }
+        let both = std::num::wrapping_add_u32(on.0, sync.0);
+        Timer::stopped().start(Quanta(both))
     }
 
     // The rest of a grant's length, once its laser is on and has settled.
@@ -89,9 +85,8 @@ impl Light {
         let gone = on.0 as u64 + sync.0 as u64;
         let whole = length.0 as u64;
         if gone <= whole {
-            return Timer {
-                left: (whole - gone) as u32,
-            };
+            let left = (whole - gone) as u32;
+            return Timer::stopped().start(Quanta(left));
         }
         Timer::stopped()
     }
@@ -105,7 +100,7 @@ impl Light {
             let timer = Light::laser_on(sync);
             return Light::Warming { timer };
         }
-        let timer = Timer { left: n };
+        let timer = Timer::stopped().start(random);
         Light::Random { timer, sync }
     }
 
@@ -214,8 +209,7 @@ impl Light {
                 with_beam(Light::Warming { timer }, Beam::Quiet)
             }
             Light::Warming { timer: _ } => {
-                let frame = Quanta::FRAME;
-                let timer = Timer { left: frame.0 };
+                let timer = Timer::stopped().start(Quanta::FRAME);
                 with_beam(Light::Asking { timer }, Beam::Window)
             }
             Light::Asking { timer: _ } => with_beam(Light::Rest, Beam::Quiet),
@@ -240,15 +234,15 @@ impl Light {
     fn wait_fits(n: u32, sync: Quanta) -> bool
         ensures { λ r. ⌜ r ≡ waitFits n sync ⌝ }
     {
-        Quanta::needed(sync) + n as u64 <= Light::LONGEST
+        let most = Quanta::MOST;
+        Quanta::needed(sync) + n as u64 <= most.0 as u64
     }
 
     // A grant of sixteen bits, long enough for its sync.
     fn served(length: Quanta, sync: Quanta) -> bool
         ensures { λ r. ⌜ r ≡ served length sync ⌝ }
     {
-        let n = length.0 as u64;
-        (Quanta::needed(sync) <= n) & (n <= Light::LONGEST)
+        (Quanta::needed(sync) <= length.0 as u64) & length.fits()
     }
 
     // Every running timer within its longest setting; a grant that is waited for is in the list.
@@ -262,7 +256,7 @@ impl Light {
                 random,
                 sync,
             } => timer.runs(Count::FURTHEST) & Light::wait_fits(random.0, sync),
-            Light::Random { timer, sync } => timer.runs(Quanta(65535))
+            Light::Random { timer, sync } => timer.runs(Quanta::MOST)
                 & Light::wait_fits(timer.left, sync),
             Light::Warming { timer } => timer.runs(Light::LONGEST_WARMING),
             Light::Asking { timer } => timer.runs(Quanta::FRAME),

@@ -1,8 +1,7 @@
 -- Rules R81, R82, R87: a sound registration.
 -- Assumes nothing.
 use mathlib.Core.Bool.{Bool, _&&_}
-use lib.Dec.{leb}
-use Rattle.clock.specs.Numbers.{watchdog, periodic, wait}
+use Rattle.clock.specs.Numbers.{watchdog, periodic, wait, fits}
 use Rattle.clock.specs.Timers.{off, runs}
 use Rattle.box_registration.specs.declared.State.{State}
 use Rattle.box_registration.specs.declared.State.the-variants.{Wait, Registering, RegisterReq, Registered}
@@ -15,4 +14,4 @@ soundIn RegisterReq r = runs (r .wait) wait && off (r .watchdog) && off (r .repo
 soundIn Registered r = off (r .wait) && runs (r .watchdog) watchdog && runs (r .report) periodic
 
 unfoldable pub soundOf : Registration → Bool
-soundOf r = soundIn (r .state) r && leb (r .sync .0) 65535
+soundOf r = soundIn (r .state) r && fits (r .sync)

@@ -37,9 +37,6 @@ pub struct Ticked {
 }
 
 impl Registration {
-    // A sync time is sixteen bits.
-    const LONGEST_SYNC: u32 = 0xFFFF;
-
     pub fn fresh() -> Registration
         ensures { λ r. ⌜ r ≡ fresh ⌝ }
     {
@@ -58,13 +55,15 @@ impl Registration {
     fn entering(self, state: State) -> Registration
         ensures { λ r. ⌜ r ≡ entering state self ⌝ }
     {
-        let stopped = Timer::stopped();
+        let wait = self.wait;
+        let watchdog = self.watchdog;
+        let report = self.report;
         let sync = self.sync;
         Registration {
             state,
-            wait: stopped,
-            watchdog: stopped,
-            report: stopped,
+            wait: wait.stop(),
+            watchdog: watchdog.stop(),
+            report: report.stop(),
             port: self.port,
             sync,
         }
@@ -95,14 +94,14 @@ impl Registration {
     pub fn registered(self, port: u16, sync: Quanta) -> Registration
         ensures { λ r. ⌜ r ≡ registered port sync ⌝ }
     {
-        let stopped = Timer::stopped();
-        let watchdog = stopped.start(Timer::WATCHDOG);
-        let report = stopped.start(Timer::PERIODIC);
+        let wait = self.wait;
+        let watchdog = self.watchdog;
+        let report = self.report;
         Registration {
             state: State::Registered,
-            wait: stopped,
-            watchdog,
-            report,
+            wait: wait.stop(),
+            watchdog: watchdog.start(Timer::WATCHDOG),
+            report: report.start(Timer::PERIODIC),
             port,
             sync,
         }
@@ -177,7 +176,7 @@ impl Registration {
         ensures { λ r. ⌜ r ≡ soundOf self ⌝ }
     {
         let sync = self.sync;
-        self.timed() & (sync.0 <= Registration::LONGEST_SYNC)
+        self.timed() & sync.fits()
     }
 
     fn tick_wait(self) -> Ticked

@@ -5,6 +5,7 @@ use mathlib.Core.List.{[], _∷_}
 use Rattle.clock.specs.Counts.{nextOf}
 use Rattle.frame.specs.declared.Body.the-variants.{Report, RegisterReq}
 use Rattle.frame.specs.declared.RegisterReqFlag.{RegisterReqFlag}
+use Rattle.box_grants.specs.Activation.{room}
 use Rattle.box_light.specs.Tick.{tickOf as lightTick}
 use Rattle.box_light.specs.declared.Beam.{Beam}
 use Rattle.box_registration.specs.Registration.{requesting, isRegistering}
@@ -40,7 +41,7 @@ shine Beam.Window p =
       ok = isRegistering (p .registration .state);
       next = withRegistration p (requesting (p .registration));
       notice = Notice.Window;
-      sent = Sent.Is (RegisterReq RegisterReqFlag.Register 16);
+      sent = Sent.Is (RegisterReq RegisterReqFlag.Register room);
     }
 shine (Beam.Start entry sync) p = told (lightUp p entry sync) Notice.Nothing Sent.Nothing
 -- R133

@@ -2,6 +2,7 @@
 ghost use mathlib.Core.Path.{_≡_};
 ghost use mathlib.Core.Bool.{true};
 ghost use Rattle.box_ticking.specs.Tick.{ring, shine, timed, transmitted, tickOf};
+use box_grants::GrantList;
 use box_light::Beam;
 use box_processes::Processes;
 use box_processes::Step;
@@ -52,7 +53,7 @@ fn shine(p: Processes, beam: Beam) -> Stage
             let registration = p.registration;
             let request = Body::RegisterReq {
                 flag: RegisterReqFlag::Register,
-                pending: 16,
+                pending: GrantList::PENDING,
             };
             Stage {
                 ok: registration.is_registering(),

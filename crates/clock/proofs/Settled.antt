@@ -4,6 +4,8 @@ use mathlib.Core.Path.{sym, _∙_}
 use Rattle.laws.specs.Settles.{Settles}
 use Rattle.clock.proofs.Quanta.needed.Kinds as needed-kinds
 use Rattle.clock.proofs.Quanta.needed.Reads as needed-reads
+use Rattle.clock.proofs.Quanta.fits.Kinds as fits-kinds
+use Rattle.clock.proofs.Quanta.fits.Reads as fits-reads
 use Rattle.clock.proofs.Count.next.Kinds as next-kinds
 use Rattle.clock.proofs.Count.next.Reads as next-reads
 use Rattle.clock.proofs.Count.distance.Kinds as distance-kinds
@@ -47,6 +49,9 @@ use Rattle.clock.proofs.Timer.quiet.Reads as quiet-reads
 
 pub needed-settles : Settles 0 needed-kinds.ps needed-kinds.r needed-reads.Post
 needed-settles κs a e x y p q = p ∙ sym q
+
+pub fits-settles : Settles 0 fits-kinds.ps fits-kinds.r fits-reads.Post
+fits-settles κs a e x y p q = p ∙ sym q
 
 pub next-settles : Settles 0 next-kinds.ps next-kinds.r next-reads.Post
 next-settles κs a e x y p q = p ∙ sym q

@@ -1,4 +1,4 @@
--- Rules R17 to R23, R27 to R29, R109, R192: the numbers, and what is made of them. Lengths are in quanta.
+-- Rules R17 to R23, R27 to R29, R47, R109, R192: the numbers, and what is made of them. Lengths are in quanta.
 -- Assumes nothing.
 use Prim.Native.Nat.{ℕ, _+_, _-_, _/_, _%_}
 use mathlib.Core.Bool.{Bool, _&&_}
@@ -6,6 +6,7 @@ use lib.Dec.{leb}
 use lib.IntN.{pos}
 use lib.Signed.{leZ}
 use Rattle.clock.specs.Counts.{distance}
+use Rattle.clock.specs.declared.Quanta.{Quanta}
 
 -- R17
 abbrev pub laserOn : ℕ
@@ -38,6 +39,13 @@ inReach n = leb 1 n && leb n furthestAdvance
 -- R29
 unfoldable pub startInRange : ℕ → ℕ → Bool
 startInRange now start = leZ (pos 0) (distance now start) && leZ (distance now start) (pos furthest)
+
+-- R47: a grant's length and a sync time are sixteen bits
+abbrev pub most : ℕ
+most = 65535
+
+abbrev pub fits : Quanta → Bool
+fits q = leb (q .0) most
 
 -- R27; one is added, since `/` rounds down
 abbrev pub quantaOf : ℕ → ℕ

@@ -2,7 +2,7 @@
 ghost use Prim.Native.Nat.{_-_, min};
 ghost use mathlib.Core.Path.{_≡_};
 ghost use Rattle.clock.specs.Counts.{nextOf, laterOf, distance, isPast, nearer, reach, driftOf, roundTrip};
-ghost use Rattle.clock.specs.Numbers.{startInRange, inReach, needed};
+ghost use Rattle.clock.specs.Numbers.{startInRange, inReach, fits, needed};
 ghost use Rattle.clock.specs.Timers.{stopped, off, runs, ticked, passedOf, quietOf};
 
 // The smaller of two numbers.
@@ -53,6 +53,16 @@ impl Quanta {
 
     // A frame of 60 octets.
     pub const FRAME: Quanta = Quanta(42);
+
+    // A grant's length and a sync time are sixteen bits.
+    pub const MOST: Quanta = Quanta(65_535);
+
+    pub fn fits(self) -> bool
+        ensures { λ r. ⌜ r ≡ fits self ⌝ }
+    {
+        let most = Quanta::MOST;
+        self.0 <= most.0
+    }
 
     // The length that a grant needs, with this sync time.
     pub fn needed(sync: Quanta) -> u64

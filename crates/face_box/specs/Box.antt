@@ -1,6 +1,6 @@
 -- Face: a box as words of 64 bits: which word holds what, when words are a box's, and what box they tell.
 -- Assumes nothing.
-use Prim.Native.Nat.{ℕ, _+_, _*_, _/_, _%_, _^_}
+use Prim.Native.Nat.{ℕ}
 use mathlib.Core.Bool.{Bool, true, cond, _&&_}
 use mathlib.Core.List.{List, [], _∷_, _++_, map}
 use lib.Dec.{eqb}
@@ -17,16 +17,16 @@ use Rattle.box_registration.specs.declared.State.{State}
 use Rattle.box_registration.specs.declared.State.the-variants.{Wait, Registering, RegisterReq, Registered}
 use Rattle.face_fields.specs.Fields.{shortOf, countOf, quantaOf, timerOf}
 use Rattle.box_processes.specs.Parts.{fresh}
-use Rattle.face_words.specs.Words.{same}
+use Rattle.face_words.specs.Words.{same, joined, upper, lower}
 use Rattle.face_box.specs.declared.Front.{Front}
 use Rattle.face_box.specs.declared.LightWords.{LightWords}
 
 -- a grant's start above its length: every word is one grant's, and every grant has one word
 abbrev pub entryWord : Entry → ℕ
-entryWord e = e .start .0 * 2 ^ 32 + e .length .0
+entryWord e = joined (e .start .0) (e .length .0)
 
 abbrev pub entryOf : ℕ → Entry
-entryOf w = record { start = record { 0 = w / 2 ^ 32 }; length = record { 0 = w % 2 ^ 32 } }
+entryOf w = record { start = record { 0 = upper w }; length = record { 0 = lower w } }
 
 abbrev pub listOf : ℕ → List ℕ → GrantList
 listOf number entries = record { entries = map entryOf entries; number = number }

@@ -10,6 +10,7 @@ use lib.IntN.{ℤ}
 use lib.ListN.{length, replicate}
 use native.Mathlib.Omega.{arith}
 use Rattle.laws.specs.Cases.{either}
+use Rattle.face_words.specs.Laws.{joined-again}
 use Rattle.box_telling.specs.Told.{isNothing}
 use Rattle.box_telling.specs.declared.Notice.{Notice}
 use Rattle.box_telling.specs.declared.Notices.{Notices}
@@ -28,13 +29,10 @@ pub clear-of : (n : ℕ) → isClear (replicate n 0) ≡ true
 clear-of zero = refl
 clear-of (suc n) = clear-of n
 
--- a grant's word is what it was
-word-again : (w : ℕ) → entryWord (entryOf w) ≡ w
-word-again w = omega arith
-
+-- grants' words are what they were
 pub words-again : (l : List ℕ) → map entryWord (map entryOf l) ≡ l
 words-again [] = refl
-words-again (w ∷ l) = rw (word-again w, words-again l)
+words-again (w ∷ l) = rw (joined-again w, words-again l)
 
 -- of four notices at most, four words each
 one-more : (x : Notice) (l : List Notice) → length (ahead x l) ≤ length l + 1

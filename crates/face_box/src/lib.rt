@@ -20,9 +20,6 @@ use clock::Quanta;
 use clock::Timer;
 use frame::Address;
 
-// A number of 32 bits above another makes one word.
-const TURN: u64 = 0x100000000;
-
 // The transmitter: its phase, the ticks left, what it holds of a grant, and the sync held.
 pub struct LightWords {
     pub phase: u64,
@@ -54,15 +51,15 @@ fn entry_word(e: Entry) -> u64
 {
     let start = e.start;
     let length = e.length;
-    start.0 as u64 * TURN + length.0 as u64
+    face_words::join(start.0, length.0)
 }
 
 pub fn entry_of(word: u64) -> Entry
     ensures { λ r. ⌜ r ≡ entryOf word ⌝ }
 {
     Entry {
-        start: Count((word / TURN) as u32),
-        length: Quanta((word % TURN) as u32),
+        start: Count(face_words::upper(word)),
+        length: Quanta(face_words::lower(word)),
     }
 }
 

@@ -1,6 +1,6 @@
 -- Lemmas: the words of a block are judged as the box in it is.
 -- Assumes nothing.
-use Prim.Native.Nat.{ℕ, _+_, _-_, _*_, _/_, _%_, _^_, _≤_, _<_, min}
+use Prim.Native.Nat.{ℕ, _+_, _-_, _%_, _^_, _≤_, _<_, min}
 use mathlib.Core.Path.{_≡_, refl, ap, _∙_}
 use mathlib.Core.Bool.{Bool, true, false, cond, _&&_, and-true, and-false, false≢true}
 use mathlib.Core.Logic.{_⊎_, inl, inr, ⊎-elim}
@@ -13,6 +13,8 @@ use Rattle.face_box.specs.declared.LightWords.{LightWords}
 use Rattle.clock.specs.Numbers.{furthest}
 use Rattle.clock.specs.Timers.{off, runs, quietOf}
 use Rattle.face_fields.specs.Fields.{timerOf, quantaOf}
+use Rattle.face_words.specs.Laws.{joined-again}
+use Rattle.face_words.specs.Words.{lower}
 use Rattle.box_light.specs.Light.{laserOnFor}
 use Rattle.box_light.specs.Pass.{quietOf as lightQuiet}
 use Rattle.box_light.specs.Sound.{waitFits, served}
@@ -317,9 +319,8 @@ module _ (l g y : ℕ) where
   due : Lights 5 l g y
   unfolding lightOf lighting lightQuiet
   due =
-      let e : g / 4294967296 * 4294967296 + g % 4294967296 ≡ g = omega arith in
-      rw (serves (g % 4294967296) y, rings l 2147483647 (omega arith), e, eq-eqb g g refl)
-      (served-join (wide l) (wide y) (runs (timerOf l) 2147483647) (served (record { 0 = g % 4294967296 }) (quantaOf y)) (quietOf (timerOf l)))
+      rw (serves (lower g) y, rings l 2147483647 (omega arith), joined-again g, eq-eqb g g refl)
+      (served-join (wide l) (wide y) (runs (timerOf l) 2147483647) (served (record { 0 = lower g }) (quantaOf y)) (quietOf (timerOf l)))
 
   lit : Lights 6 l g y
   unfolding lightOf lighting lightQuiet laserOnFor

@@ -1,11 +1,12 @@
 -- Code: the quiet ticks of a box as the code comes to them, word by word; `specs/Judged.antt` shows that they are those of the box in the block.
 -- Assumes nothing.
-use Prim.Native.Nat.{ℕ, _+_, _-_, _%_, min}
+use Prim.Native.Nat.{ℕ, _+_, _-_, min}
 use mathlib.Core.Bool.{Bool, true, false, cond, _&&_, _||_}
 use mathlib.Core.List.{List, [], _∷_}
 use lib.Dec.{eqb, leb, ltb}
 use lib.ListN.{take, drop, getD}
 use Rattle.face_box.specs.Box.{isClear}
+use Rattle.face_words.specs.Words.{lower}
 use Rattle.frame_range.specs.Fits.{isIndividual}
 
 -- the ticks before a running timer rings; none of a word that is no such timer's
@@ -38,7 +39,7 @@ unfoldable pub lightOf : ℕ → ℕ → ℕ → ℕ → ℕ
 lightOf phase left grant sync =
     cond (eqb phase 7) (cond (eqb grant 0 && eqb sync 0) (ringsIn left 65503) 0)
     (cond (eqb phase 6) (cond (isServed grant sync) (ringsIn left (32 + sync)) 0)
-    (cond (eqb phase 5) (cond (isServed (grant % 4294967296) sync) (ringsIn left 2147483647) 0)
+    (cond (eqb phase 5) (cond (isServed (lower grant) sync) (ringsIn left 2147483647) 0)
     (discoveryOf phase left grant sync)))
 
 unfoldable pub isOwn : ℕ → ℕ → ℕ → ℕ → Bool
@@ -48,7 +49,7 @@ isOwn address count port sync =
 -- lengths of sixteen bits
 abbrev pub areShort : List ℕ → Bool
 areShort [] = true
-areShort (x ∷ l) = leb (x % 4294967296) 65535 && areShort l
+areShort (x ∷ l) = leb (lower x) 65535 && areShort l
 
 abbrev pub isAmong : ℕ → List ℕ → Bool
 isAmong grant [] = false

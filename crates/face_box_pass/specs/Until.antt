@@ -1,6 +1,6 @@
 -- Lemmas: the quiet ticks that the code comes to are those of the box in the block.
 -- Assumes nothing.
-use Prim.Native.Nat.{ℕ, zero, suc, _+_, _-_, _/_, _%_, _^_, _≤_, _<_, min}
+use Prim.Native.Nat.{ℕ, zero, suc, _+_, _-_, _^_, _≤_, _<_, min}
 use mathlib.Core.Path.{_≡_, refl, sym, ap, _∙_}
 use mathlib.Core.Bool.{Bool, true, false, not, cond, _&&_, _||_, or-true, or-false, and-true, and-false, and-eq-true-iff, false≢true}
 use mathlib.Core.Logic.{_⊎_, inl, inr, ⊎-elim}
@@ -14,6 +14,7 @@ use Rattle.laws.specs.Cases.{cut}
 use Rattle.face_box.specs.Box.{entryOf, listOf, stateWord, stateOf, registrationOf, lightWords, discoveryOf as discovering, lightOf as lighting, frontWords, frontOf, isClear, hasWords, isBox, boxOf, boxIn}
 use Rattle.clock.specs.Timers.{runs, quietOf as timerQuiet}
 use Rattle.face_fields.specs.Fields.{timerOf, quantaOf}
+use Rattle.face_words.specs.Words.{upper, lower}
 use Rattle.box_calls.specs.Box.{soundOf}
 use Rattle.box_calls.specs.Pass.{quietOf}
 use Rattle.box_grants.specs.Activation.{same, holds}
@@ -102,15 +103,15 @@ word-same g x =
     ⊎-elim (λ (k : g < x). other (omega arith))
     (λ (k : x ≤ g).
     let e : x ≡ g = omega arith in
-    rw (e, eq-eqb (g / 4294967296) (g / 4294967296) refl, eq-eqb (g % 4294967296) (g % 4294967296) refl, eq-eqb g g refl))
+    rw (e, eq-eqb (upper g) (upper g) refl, eq-eqb (lower g) (lower g) refl, eq-eqb g g refl))
     (cut g x))
     (cut x g)
   where
     other : (x ≡ g → ⊥) → same (entryOf g) (entryOf x) ≡ eqb x g
     other h =
-        ⊎-elim (λ (k : g / 4294967296 ≡ x / 4294967296). rw (ne-eqb x g h, ne-eqb (g % 4294967296) (x % 4294967296) (λ e. h (omega arith))) (and-false (eqb (g / 4294967296) (x / 4294967296))))
-        (λ (k : g / 4294967296 ≡ x / 4294967296 → ⊥). rw (ne-eqb x g h, ne-eqb (g / 4294967296) (x / 4294967296) k))
-        (equal (g / 4294967296) (x / 4294967296))
+        ⊎-elim (λ (k : upper g ≡ upper x). rw (ne-eqb x g h, ne-eqb (lower g) (lower x) (λ e. h (omega arith))) (and-false (eqb (upper g) (upper x))))
+        (λ (k : upper g ≡ upper x → ⊥). rw (ne-eqb x g h, ne-eqb (upper g) (upper x) k))
+        (equal (upper g) (upper x))
 
 among : (g n : ℕ) (l : List ℕ) → holds (entryOf g) (take n (map entryOf l)) ≡ isAmong g (take n l)
 among g zero l = refl
@@ -131,7 +132,7 @@ all-short zero l = by-clear (isClear l) refl
     by-clear true e = clear-short l e
     by-clear false e = refl
 all-short (suc n) [] = refl
-all-short (suc n) (x ∷ l) = by-first (leb (x % 4294967296) 65535) (all-short n l)
+all-short (suc n) (x ∷ l) = by-first (leb (lower x) 65535) (all-short n l)
   where
     by-first : (t : Bool) → (isClear (drop n l) && areShort l) ≡ (isClear (drop n l) && areShort (take n l))
         → (isClear (drop n l) && (t && areShort l)) ≡ (isClear (drop n l) && (t && areShort (take n l)))

@@ -125,7 +125,7 @@ fn light(phase: u64, left: u64, grant: u64, sync: u64) -> u64
         return 0;
     }
     if phase == 5 {
-        if is_served(grant % COUNTS, sync) {
+        if is_served(face_words::lower(grant) as u64, sync) {
             return rings_in(left, 0x7FFF_FFFF);
         }
         return 0;
@@ -167,7 +167,7 @@ fn are_short(b: &[u64], end: usize) -> bool
     let mut short = true;
     let mut i = GRANTS;
     while i < end {
-        short = short & (b[i] % COUNTS <= SIXTEEN_BITS);
+        short = short & (face_words::lower(b[i]) as u64 <= SIXTEEN_BITS);
         i += 1;
     }
     short

@@ -1,6 +1,6 @@
 -- Face: a message as ten words of 64 bits: which word holds what.
 -- Assumes nothing.
-use Prim.Native.Nat.{ℕ, _+_, _-_, _*_, _^_}
+use Prim.Native.Nat.{ℕ, _-_}
 use mathlib.Core.List.{List, [], _∷_, _++_, map}
 use lib.ListN.{length, replicate}
 use Rattle.frame.specs.Layout.{listed, forceBits, registerReqFlag, registerFlag, registerAckFlag}
@@ -8,7 +8,7 @@ use Rattle.frame.specs.declared.Body.{Body}
 use Rattle.frame.specs.declared.Body.the-variants.{Gate, Discovery, Report, RegisterReq, Register, RegisterAck}
 use Rattle.frame.specs.declared.Grant.{Grant}
 use Rattle.frame.specs.declared.Message.{Message}
-use Rattle.face_words.specs.Words.{bit}
+use Rattle.face_words.specs.Words.{joined, bit}
 
 abbrev pub kindOf : Body → ℕ
 kindOf (Gate grants) = 0
@@ -20,7 +20,7 @@ kindOf (RegisterAck flag port sync) = 5
 
 -- a grant's start above its length, as in the box's list; its force bit stands elsewhere
 abbrev pub grantWord : Grant → ℕ
-grantWord g = g .start .0 * 2 ^ 32 + g .length .0
+grantWord g = joined (g .start .0) (g .length .0)
 
 -- what a body holds, the flags by their numbers on the wire
 abbrev pub fieldsOf : Body → List ℕ

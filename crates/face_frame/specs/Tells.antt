@@ -11,7 +11,7 @@ use Rattle.frame.specs.declared.Body.the-variants.{Gate, Discovery, Report, Reg
 use Rattle.frame.specs.declared.Grant.{Grant}
 use Rattle.frame.specs.declared.Message.{Message}
 use Rattle.face_frame.specs.Message.{messageWords}
-use Rattle.face_words.specs.Words.{same}
+use Rattle.face_words.specs.Words.{same, upper, lower}
 
 abbrev pub at : List ℕ → ℕ → ℕ
 at w i = getD w i 0
@@ -21,7 +21,7 @@ abbrev pub within : ℕ → ℕ → ℕ
 within bits w = min w (2 ^ bits - 1)
 
 abbrev pub grantOf : ℕ → Bool → Grant
-grantOf w force = record { start = record { 0 = w / 2 ^ 32 }; length = record { 0 = w % 2 ^ 32 }; force = force }
+grantOf w force = record { start = record { 0 = upper w }; length = record { 0 = lower w }; force = force }
 
 -- grants of words; the first one's force bit is the lowest
 abbrev pub grantsOf : ℕ → List ℕ → List Grant

@@ -1,6 +1,6 @@
 -- Code: the steps in which a frame is read into words, each as what the reader makes of it.
 -- Assumes nothing.
-use Prim.Native.Nat.{ℕ, _+_, _*_, _/_, _%_, _^_}
+use Prim.Native.Nat.{ℕ, _+_, _/_, _%_, _^_}
 use mathlib.Core.Bool.{Bool, cond, _&&_}
 use mathlib.Core.List.{List, [], _∷_}
 use lib.Dec.{eqb, leb}
@@ -12,6 +12,7 @@ use Rattle.frame.specs.declared.Body.{Body}
 use Rattle.frame.specs.declared.Body.the-variants.{Gate, Discovery}
 use Rattle.frame.specs.declared.Reading.{Reading}
 use Rattle.frame.specs.declared.Reply.the-variants.{Done, Range}
+use Rattle.face_words.specs.Words.{joined}
 use Rattle.face_frame_read.specs.Read.{ReadLeft, readLeft}
 
 abbrev pub tenOver : ℕ → ℕ → ℕ → ℕ → ℕ → ℕ → ℕ → ℕ → ℕ → ℕ → List ℕ → List ℕ
@@ -28,7 +29,7 @@ abbrev pub blank : ℕ → List ℕ → ReadLeft
 blank number m = readLeft number (tenOver 0 0 0 2 0 0 0 0 0 0 m)
 
 abbrev pub wordAt : List ℕ → ℕ → Bool → ℕ
-wordAt l a there = cond there (fieldOf l a 4 * 2 ^ 32 + fieldOf l (a + 4) 2) 0
+wordAt l a there = cond there (joined (fieldOf l a 4) (fieldOf l (a + 4) 2)) 0
 
 -- the message with this body, where its fields are in range
 abbrev pub ranged : Bool → List ℕ → Body → Reading

@@ -41,7 +41,7 @@ fn grant(s: &[u8], at: usize, there: bool) -> u64
     ensures { λ r. ⌜ r ≡ wordAt (now (s .entry)) at there ⌝ }
 {
     if there {
-        return field(s, at, 4) * 0x100000000 + field(s, at + 4, 2);
+        return face_words::join(field(s, at, 4) as u32, field(s, at + 4, 2) as u32);
     }
     0
 }

@@ -20,17 +20,19 @@ use Rattle.frame_range.specs.Fits.{fitsBody}
 use Rattle.frame_reader.proofs.Gate.{one-odd, listed-short, few-listed, bits-below}
 use Rattle.frame_reader.specs.Decode.{few}
 use Rattle.face_frame.specs.Tells.{grantsOf, bodyOf}
+use Rattle.face_words.specs.Laws.{joined-again}
+use Rattle.face_words.specs.Words.{lower}
 use Rattle.face_frame_write.specs.Write.{writingOf, written}
 use Rattle.face_frame_write.specs.Steps.{grantIn, forceIn, gateIn, grantBytes, gateLaid}
 use Rattle.face_frame_write.proofs.Chain.{each, passed}
-use Rattle.face_frame_write.proofs.Page.{bodyWords, Has, place, grant-word, paged}
+use Rattle.face_frame_write.proofs.Page.{bodyWords, Has, place, paged}
 
 -- a grant's word where it is there, and 0 where it isn't; and whether its length then has two octets
 abbrev shown : ℕ → Bool → ℕ
 shown g there = cond there g 0
 
 abbrev short : ℕ → Bool → Bool
-short g there = cond there (leb (g % 2 ^ 32) 0xFFFF) true
+short g there = cond there (leb (lower g) 0xFFFF) true
 
 shown-is : (g : ℕ) (t : Bool) → grantIn g t ≡ true → shown g t ≡ g
 shown-is g true h = refl
@@ -93,10 +95,10 @@ module _ (x a b c e : ℕ) where
       → bodyWords (Gate (few (gs n)))
       ≡ n ∷ forceBits (gs n) ∷ shown a (ltb 0 n) ∷ shown b (ltb 1 n) ∷ shown c (ltb 2 n) ∷ shown e (ltb 3 n) ∷ []
   words-of zero h = refl
-  words-of (suc zero) h = rw (grant-word a)
-  words-of (suc (suc zero)) h = rw (grant-word a, grant-word b)
-  words-of (suc (suc (suc zero))) h = rw (grant-word a, grant-word b, grant-word c)
-  words-of (suc (suc (suc (suc zero)))) h = rw (grant-word a, grant-word b, grant-word c, grant-word e)
+  words-of (suc zero) h = rw (joined-again a)
+  words-of (suc (suc zero)) h = rw (joined-again a, joined-again b)
+  words-of (suc (suc (suc zero))) h = rw (joined-again a, joined-again b, joined-again c)
+  words-of (suc (suc (suc (suc zero)))) h = rw (joined-again a, joined-again b, joined-again c, joined-again e)
   words-of (suc (suc (suc (suc (suc n))))) h = absurd (omega arith)
 
   fits-of : (n : ℕ) → n ≤ 4

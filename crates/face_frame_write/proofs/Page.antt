@@ -16,7 +16,8 @@ use Rattle.frame.specs.Reading.{oneOf}
 use Rattle.frame.specs.declared.Body.{Body}
 use Rattle.frame_range.specs.Fits.{fitsBody, fitsMessage}
 use Rattle.frame_reader.specs.Decode.{registerReqFlagOf, registerFlagOf, registerAckFlagOf}
-use Rattle.face_words.specs.Laws.{same-is, same-self}
+use Rattle.face_words.specs.Laws.{same-is, same-self, joined-again}
+use Rattle.face_words.specs.Words.{lower}
 use Rattle.face_frame.specs.Laws.{two-tests, four-tests, req-flag-word, flag-word, ack-flag-word, req-flag-is, flag-is, ack-flag-is}
 use Rattle.face_frame.specs.Message.{kindOf, fieldsOf, messageWords}
 use Rattle.face_frame.specs.Tells.{at, bodyOf, messageOf, isMessage}
@@ -113,10 +114,6 @@ bit-one x h = le-leb x 1 (either (λ (y : ℕ). y ≡ x → x ≤ 1) (eqb x 1) 1
 one-octet : (b : Bool) → 9 + 16 * (cond b 1 0 + 0) ≡ cond b 25 9
 one-octet true = refl
 one-octet false = refl
-
--- every word is a grant's
-pub grant-word : (g : ℕ) → g / 2 ^ 32 * 2 ^ 32 + g % 2 ^ 32 ≡ g
-grant-word g = omega arith
 
 module _ (d s t : ℕ) (o : List ℕ) where
   pub report-page : (a b c e f g : ℕ)
@@ -229,7 +226,7 @@ module _ (d s t : ℕ) (o : List ℕ) where
   unfolding discoveryLaid bodyOf bodyOctets firstOctet onto
   discovery-page sync force g a b c =
       paged d s t 1 (sync ∷ force ∷ g ∷ a ∷ b ∷ c ∷ []) o
-      (leb sync 0xFFFF ∷ leb force 1 ∷ leb (g % 2 ^ 32) 0xFFFF ∷ eqb a 0 ∷ eqb b 0 ∷ eqb c 0 ∷ [])
+      (leb sync 0xFFFF ∷ leb force 1 ∷ leb (lower g) 0xFFFF ∷ eqb a 0 ∷ eqb b 0 ∷ eqb c 0 ∷ [])
       (frameOf d s 2 t (bytes 1 (cond (eqb force 1) 25 9) ++ grantBytes g ++ bytes 2 sync))
       (λ h.
       let long = wide sync (h .0) in
@@ -239,7 +236,7 @@ module _ (d s t : ℕ) (o : List ℕ) where
             rw (
               long,
               one-bit force (h .1 .0),
-              grant-word g,
+              joined-again g,
               eqb-true a 0 (h .1 .1 .1 .0),
               eqb-true b 0 (h .1 .1 .1 .1 .0),
               eqb-true c 0 (h .1 .1 .1 .1 .1 .0),
@@ -249,7 +246,7 @@ module _ (d s t : ℕ) (o : List ℕ) where
       })
       (λ _ p q.
       let i = place p in
-      let h = each (leb (g % 2 ^ 32) 0xFFFF) (leb (min sync 0xFFFFFFFF) 0xFFFF ∷ []) q in
+      let h = each (leb (lower g) 0xFFFF) (leb (min sync 0xFFFFFFFF) 0xFFFF ∷ []) q in
       (rw (i 0) at (h .1 .0), (bit-one force (i 1), (h .0, (zero-of a (i 3), (zero-of b (i 4), (zero-of c (i 5), tt)))))))
 
   -- a kind that there isn't

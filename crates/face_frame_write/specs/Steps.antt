@@ -2,13 +2,14 @@
 -- this is what `Write` answers.
 -- Assumes nothing.
 use Prim.Native.Nat.{ℕ, _+_, _*_, _/_, _%_, _^_}
-use mathlib.Core.Bool.{Bool, false, cond, _&&_, _||_}
+use mathlib.Core.Bool.{Bool, true, false, cond, _&&_, _||_}
 use mathlib.Core.List.{List, [], _++_}
 use lib.Dec.{eqb, leb, ltb}
 use lib.ListN.{drop, replicate}
 use Rattle.octets.specs.Octets.{bytes}
 use Rattle.frame.specs.Layout.{frameOf}
 use Rattle.frame_writer.specs.Write.{over}
+use Rattle.face_words.specs.Words.{upper, lower}
 use Rattle.face_frame_write.specs.Write.{WriteLeft, writeLeft}
 
 -- a frame where the test is passed, zeros where it isn't
@@ -20,7 +21,7 @@ headerIn d s t = leb d 0xFFFFFFFFFFFF && leb s 0xFFFFFFFFFFFF && leb t 0xFFFFFFF
 
 -- a grant's word, whose length has two octets; one that isn't there is 0
 abbrev pub grantIn : ℕ → Bool → Bool
-grantIn g there = cond there (leb (g % 2 ^ 32) 0xFFFF) (eqb g 0)
+grantIn g there = cond there (leb (lower g) 0xFFFF) (eqb g 0)
 
 -- no force bit of an absent grant
 abbrev pub forceIn : ℕ → ℕ → Bool
@@ -31,10 +32,10 @@ gateIn n force a b c d =
     forceIn force n && grantIn a (ltb 0 n) && grantIn b (ltb 1 n) && grantIn c (ltb 2 n) && grantIn d (ltb 3 n)
 
 abbrev pub grantBytes : ℕ → List ℕ
-grantBytes g = bytes 4 (g / 2 ^ 32) ++ bytes 2 (g % 2 ^ 32)
+grantBytes g = bytes 4 (upper g) ++ bytes 2 (lower g)
 
 abbrev pub grantOver : ℕ → List ℕ → ℕ → List ℕ
-grantOver a l g = over (a + 4) (over a l (bytes 4 (g / 2 ^ 32))) (bytes 2 (g % 2 ^ 32))
+grantOver a l g = over (a + 4) (over a l (bytes 4 (upper g))) (bytes 2 (lower g))
 
 module _ (d s t : ℕ) where
   unfoldable pub gateLaid : ℕ → ℕ → ℕ → ℕ → ℕ → ℕ → List ℕ → WriteLeft
@@ -46,7 +47,7 @@ module _ (d s t : ℕ) where
   unfoldable pub discoveryLaid : ℕ → ℕ → ℕ → ℕ → ℕ → ℕ → List ℕ → WriteLeft
   discoveryLaid sync force a b c e o =
       laidOut
-      (headerIn d s t && leb sync 0xFFFF && leb force 1 && leb (a % 2 ^ 32) 0xFFFF && eqb b 0 && eqb c 0 && eqb e 0)
+      (headerIn d s t && leb sync 0xFFFF && leb force 1 && grantIn a true && eqb b 0 && eqb c 0 && eqb e 0)
       (frameOf d s 2 t (bytes 1 (cond (eqb force 1) 25 9) ++ grantBytes a ++ bytes 2 sync))
       o
 

@@ -34,8 +34,8 @@ fn lay_grant(o: &mut [u8], at: usize, grant: u64)
     requires { ⌜ at + 6 ≤ length (now o) ⌝ }
     ensures { λ _. ⌜ now (o .exit) ≡ grantOver at (now (o .entry)) grant ⌝ }
 {
-    lay(o, at, 4, grant / 0x100000000);
-    lay(o, at + 4, 2, grant % 0x100000000);
+    lay(o, at, 4, face_words::upper(grant) as u64);
+    lay(o, at + 4, 2, face_words::lower(grant) as u64);
 }
 
 // A frame with an empty body.
@@ -69,7 +69,7 @@ fn grant_in(grant: u64, there: bool) -> bool
     ensures { λ r. ⌜ r ≡ grantIn grant there ⌝ }
 {
     if there {
-        return grant % 0x100000000 <= 0xFFFF;
+        return face_words::lower(grant) <= 0xFFFF;
     }
     grant == 0
 }
@@ -153,7 +153,7 @@ fn write_discovery(
     if header_in(destination, source, timestamp)
         & (sync <= 0xFFFF)
         & (force <= 1)
-        & (grant % 0x100000000 <= 0xFFFF)
+        & grant_in(grant, true)
         & (a == 0)
         & (b == 0)
         & (c == 0)

@@ -1,14 +1,15 @@
 -- Face: what a gate request asks for, told in words of 64 bits, one a grant.
 -- Assumes nothing.
-use Prim.Native.Nat.{ℕ, _/_, _%_, _^_}
+use Prim.Native.Nat.{ℕ}
 use mathlib.Core.List.{List}
 use lib.ListN.{length, getD}
 use Rattle.head_gating.specs.declared.Asked.{Asked}
 use Rattle.head_gating.specs.declared.Leave.{Leave}
+use Rattle.face_words.specs.Words.{upper, lower}
 
 -- a grant's start above its length
 abbrev pub leaveOf : ℕ → Leave
-leaveOf w = record { start = record { 0 = w / 2 ^ 32 }; length = record { 0 = w % 2 ^ 32 } }
+leaveOf w = record { start = record { 0 = upper w }; length = record { 0 = lower w } }
 
 -- the first four; a grant that isn't there is one of start 0, length 0
 unfoldable pub askedOf : List ℕ → ℕ → Asked

@@ -37,9 +37,6 @@ const FRAME: usize = 60;
 // Up to so many links are few.
 const FEW: usize = 8;
 
-// A grant is one word: its start in the upper 32 bits, its length below.
-const TURN: u64 = 0x100000000;
-
 // How many links a call lays back in the words: all where it is done, none where it is refused.
 fn kept(answer: Answer, links: usize) -> usize
     ensures { λ r. ⌜ r ≡ keptOf answer links ⌝ }
@@ -241,12 +238,13 @@ pub fn begun(address: Address, head: &mut [u64], links: &mut [u64], reply: &mut 
     SHORT
 }
 
+// A grant is one word: its start above its length.
 fn leave_of(word: u64) -> Leave
     ensures { λ r. ⌜ r ≡ leaveOf word ⌝ }
 {
     Leave {
-        start: Count((word / TURN) as u32),
-        length: Quanta((word % TURN) as u32),
+        start: Count(face_words::upper(word)),
+        length: Quanta(face_words::lower(word)),
     }
 }
 

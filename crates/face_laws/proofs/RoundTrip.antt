@@ -17,7 +17,7 @@ use Rattle.box_light.specs.declared.Light.the-variants.{Rest, Before, Random, W
 use Rattle.box_registration.specs.declared.Registration.{Registration}
 use Rattle.box_registration.specs.declared.State.{State}
 use Rattle.box_registration.specs.declared.State.the-variants.{Wait, Registering, RegisterReq, Registered}
-use Rattle.face_words.specs.Laws.{same-self}
+use Rattle.face_words.specs.Laws.{same-self, upper-joined, lower-joined}
 use Rattle.face_words.specs.Words.{narrowed}
 use Rattle.face_box.specs.Box.{entryWord, entryOf, stateWord, stateOf, registrationOf, lightWords, discoveryOf, lightOf, frontWords, frontOf, frontIn, boxWords, boxOf, hasWords, isBox, boxIn}
 use Rattle.face_box.specs.Laws.{clear-of}
@@ -33,14 +33,8 @@ timer-back t h = rw (narrow-is (t .left) h)
 pub quanta-back : (q : Quanta) → QuantaFit q → quantaOf (q .0) ≡ q
 quanta-back q h = rw (narrow-is (q .0) h)
 
-upper : (a b : ℕ) → b < 2 ^ 32 → (a * 2 ^ 32 + b) / 2 ^ 32 ≡ a
-upper a b h = omega arith
-
-lower : (a b : ℕ) → b < 2 ^ 32 → (a * 2 ^ 32 + b) % 2 ^ 32 ≡ b
-lower a b h = omega arith
-
 entry-back : (e : Entry) → EntryFits e → entryOf (entryWord e) ≡ e
-entry-back e h = rw (upper (e .start .0) (e .length .0) h, lower (e .start .0) (e .length .0) h)
+entry-back e h = rw (upper-joined (e .start .0) (e .length .0) h, lower-joined (e .start .0) (e .length .0) h)
 
 entries-back : (es : List Entry) → EntriesFit es → map entryOf (map entryWord es) ≡ es
 entries-back [] h = refl

@@ -37,7 +37,7 @@ use Rattle.frame_reader.proofs.Back.{carried}
 use Rattle.frame_reader.proofs.Forth.{read-encode}
 use Rattle.frame_reader.proofs.Gate.{listed-few, listed-short}
 use Rattle.head_laws.specs.Pasted.{encode-length}
-use Rattle.face_words.specs.Laws.{same-is, same-self}
+use Rattle.face_words.specs.Laws.{same-is, same-self, upper-joined, lower-joined}
 use Rattle.face_frame.specs.Message.{kindOf, grantWord, fieldsOf, messageWords}
 use Rattle.face_frame.specs.Tells.{at, within, grantOf, grantsOf, bodyOf, messageOf, isMessage}
 use Rattle.frame_writer.specs.Write.{writeOf}
@@ -74,9 +74,7 @@ within-fits bits n = omega (arith, pow-pos bits)
 -- a grant of its word and its force bit
 grant-back : (g : Grant) (b : Bool) → GrantFits g → b ≡ g .force → grantOf (grantWord g) b ≡ g
 grant-back g b h e =
-    let s : (g .start .0 * 2 ^ 32 + g .length .0) / 2 ^ 32 ≡ g .start .0 = omega (arith, h .1) in
-    let n : (g .start .0 * 2 ^ 32 + g .length .0) % 2 ^ 32 ≡ g .length .0 = omega (arith, h .1) in
-    rw (s, n, e)
+    rw (upper-joined (g .start .0) (g .length .0) (h .1), lower-joined (g .start .0) (g .length .0) (h .1), e)
 
 bit-back : (t : Bool) → eqb (cond t 1 0) 1 ≡ t
 bit-back true = refl

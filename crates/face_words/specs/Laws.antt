@@ -1,7 +1,7 @@
--- Lemmas: what is left of laying words where they fit, what the test of two lists says, and a loop that fills an array with what it makes of
--- another's elements.
+-- Lemmas: what is left of laying words where they fit, what the test of two lists says, two numbers in a word, and a loop that fills an array
+-- with what it makes of another's elements.
 -- Assumes nothing.
-use Prim.Native.Nat.{ℕ, _+_, _≤_, _<_, min}
+use Prim.Native.Nat.{ℕ, _+_, _^_, _≤_, _<_, min}
 use mathlib.Core.Path.{_≡_, refl, sym, _∙_, ap}
 use mathlib.Core.Bool.{true, and-eq-true-iff, false≢true}
 use mathlib.Core.List.{List, [], _∷_, _++_, map, append-nil}
@@ -11,7 +11,7 @@ use borrow.Author.Tests.{eq-eqb, eqb-true}
 use lib.Dec.{eqb}
 use lib.ListN.{length, take, drop, getD, set, length-map, List·getD-map}
 use lib.Seq.{take-length, drop-length, take-suc, take-suc-set, take-all}
-use Rattle.face_words.specs.Words.{laid, same}
+use Rattle.face_words.specs.Words.{laid, same, joined, upper, lower}
 
 -- all of the words have room
 pub laid-over : (s d : List ℕ) → length s ≤ length d → laid s d ≡ s ++ drop (length s) d
@@ -36,6 +36,16 @@ same-is (x ∷ a) (y ∷ b) h =
 pub same-self : (a : List ℕ) → same a a ≡ true
 same-self [] = refl
 same-self (x ∷ a) = rw (eq-eqb x x refl, same-self a)
+
+-- every word is two numbers, and two numbers have one word
+pub joined-again : (w : ℕ) → joined (upper w) (lower w) ≡ w
+joined-again w = omega arith
+
+pub upper-joined : (a b : ℕ) → b < 2 ^ 32 → upper (joined a b) ≡ a
+upper-joined a b h = omega arith
+
+pub lower-joined : (a b : ℕ) → b < 2 ^ 32 → lower (joined a b) ≡ b
+lower-joined a b h = omega arith
 
 module _ {A B : Type 0} (f : A → B) (xs : List A) where
   -- a turn of the loop

@@ -1,6 +1,6 @@
 -- Face: what words of 64 bits stand for, and how words are laid into lent memory.
 -- Assumes nothing.
-use Prim.Native.Nat.{ℕ, _-_, _^_, min}
+use Prim.Native.Nat.{ℕ, _+_, _-_, _*_, _/_, _%_, _^_, min}
 use mathlib.Core.Bool.{Bool, true, false, cond, _&&_}
 use mathlib.Core.List.{List, [], _∷_, _++_}
 use lib.Dec.{eqb}
@@ -25,6 +25,16 @@ same (x ∷ a) (y ∷ b) = eqb x y && same a b
 -- a number of 32 bits as it is; one that is too large as the largest
 abbrev pub narrowed : ℕ → ℕ
 narrowed w = min w 4294967295
+
+-- two numbers of 32 bits in a word, one above the other, as a grant's start above its length; and the two of a word
+abbrev pub joined : ℕ → ℕ → ℕ
+joined above below = above * 2 ^ 32 + below
+
+abbrev pub upper : ℕ → ℕ
+upper w = w / 2 ^ 32
+
+abbrev pub lower : ℕ → ℕ
+lower w = w % 2 ^ 32
 
 abbrev pub bit : Bool → ℕ
 bit set = cond set 1 0

@@ -2,10 +2,13 @@
 ghost use mathlib.Core.Path.{_≡_};
 ghost use mathlib.Core.List.{[], _∷_};
 ghost use Prim.Native.Nat.{_-_, min};
-ghost use Rattle.face_words.specs.Words.{laid, same, narrowed, bit, driftWord};
+ghost use Rattle.face_words.specs.Words.{laid, same, narrowed, joined, upper, lower, bit, driftWord};
 
 // The face's own number, which none of the card's is: too little memory is lent, and nothing is touched.
 pub const SHORT: u8 = 100;
+
+// Above a number of 32 bits in a word.
+const TURN: u64 = 0x1_0000_0000;
 
 pub fn least(a: u64, b: u64) -> u64
     ensures { λ r. ⌜ r ≡ min a b ⌝ }
@@ -77,6 +80,27 @@ pub fn narrow(word: u64) -> u32
         return word as u32;
     }
     0xFFFFFFFF
+}
+
+// Two numbers of 32 bits in a word, one above the other, as a grant's start above its length.
+pub fn join(above: u32, below: u32) -> u64
+    ensures { λ r. ⌜ r ≡ joined above below ⌝ }
+{
+    above as u64 * TURN + below as u64
+}
+
+// The number above in such a word.
+pub fn upper(word: u64) -> u32
+    ensures { λ r. ⌜ r ≡ upper word ⌝ }
+{
+    (word / TURN) as u32
+}
+
+// The number below.
+pub fn lower(word: u64) -> u32
+    ensures { λ r. ⌜ r ≡ lower word ⌝ }
+{
+    (word % TURN) as u32
 }
 
 // A bit as a word.

@@ -23,11 +23,6 @@ pub struct Grant {
     pub force: bool,
 }
 
-impl Grant {
-    // Two octets hold a length.
-    pub const LONGEST: Quanta = Quanta(0xFFFF);
-}
-
 // A normal GATE's grants, by cases, so that there is no number of them to be wrong.
 pub enum Grants {
     None,

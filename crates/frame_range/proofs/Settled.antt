@@ -4,8 +4,6 @@ use mathlib.Core.Path.{sym, _∙_}
 use Rattle.laws.specs.Settles.{Settles}
 use Rattle.frame_range.proofs.address.Kinds as address-kinds
 use Rattle.frame_range.proofs.address.Reads as address
-use Rattle.frame_range.proofs.length.Kinds as length-kinds
-use Rattle.frame_range.proofs.length.Reads as length
 use Rattle.frame_range.proofs.message.Kinds as message-kinds
 use Rattle.frame_range.proofs.message.Reads as message
 use Rattle.frame_range.proofs.individual.Kinds as individual-kinds
@@ -15,9 +13,6 @@ use Rattle.frame_range.proofs.grants.Reads as grants
 
 pub address-settles : Settles 0 address-kinds.ps address-kinds.r address.Post
 address-settles κs a e x y p q = p ∙ sym q
-
-pub length-settles : Settles 0 length-kinds.ps length-kinds.r length.Post
-length-settles κs a e x y p q = p ∙ sym q
 
 pub message-settles : Settles 0 message-kinds.ps message-kinds.r message.Post
 message-settles κs a e x y p q = p ∙ sym q

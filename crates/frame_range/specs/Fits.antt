@@ -1,10 +1,10 @@
--- Rules R45 to R47, R73: whether a message is in range, as a test; which addresses are individual.
+-- Rules R45, R46, R73: whether a message is in range, as a test; which addresses are individual.
 -- Assumes nothing.
 use Prim.Native.Nat.{_/_, _%_, _^_}
 use mathlib.Core.Bool.{Bool, true, _&&_}
 use mathlib.Core.List.{List, [], _∷_}
 use lib.Dec.{eqb, leb, ltb}
-use Rattle.clock.specs.declared.Quanta.{Quanta}
+use Rattle.clock.specs.Numbers.{fits}
 use Rattle.frame.specs.Layout.{listed}
 use Rattle.frame.specs.declared.Address.{Address}
 use Rattle.frame.specs.declared.Grant.{Grant}
@@ -19,11 +19,8 @@ fitsAddress a = leb (a .0) 0xFFFFFFFFFFFF
 abbrev pub isIndividual : Address → Bool
 isIndividual a = fitsAddress a && ltb 0 (a .0) && eqb (a .0 / 2 ^ 40 % 2) 0
 
-abbrev pub fitsLength : Quanta → Bool
-fitsLength length = leb (length .0) 0xFFFF
-
 abbrev pub fitsGrant : Grant → Bool
-fitsGrant g = fitsLength (g .length)
+fitsGrant g = fits (g .length)
 
 abbrev pub fitsAll : Bool → List Grant → Bool
 fitsAll t [] = t
@@ -31,11 +28,11 @@ fitsAll t (g ∷ gs) = fitsAll (t && fitsGrant g) gs
 
 abbrev pub fitsBody : Body → Bool
 fitsBody (Gate grants) = fitsAll true (listed grants)
-fitsBody (Discovery grant sync) = fitsGrant grant && fitsLength sync
+fitsBody (Discovery grant sync) = fitsGrant grant && fits sync
 fitsBody Report = true
 fitsBody (RegisterReq flag pending) = true
-fitsBody (Register port flag sync pending) = fitsLength sync
-fitsBody (RegisterAck flag port sync) = fitsLength sync
+fitsBody (Register port flag sync pending) = fits sync
+fitsBody (RegisterAck flag port sync) = fits sync
 
 unfoldable pub fitsMessage : Message → Bool
 fitsMessage m = fitsAddress (m .destination) && fitsAddress (m .source) && fitsBody (m .body)

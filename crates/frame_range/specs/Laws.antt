@@ -7,6 +7,7 @@ use mathlib.Core.List.{List, [], _∷_}
 use native.Mathlib.Omega.{arith}
 use borrow.Author.Tests.{leb-true, le-leb}
 use lib.Dec.{leb}
+use Rattle.clock.specs.Numbers.{most, fits}
 use Rattle.frame.specs.Layout.{listed}
 use Rattle.frame.specs.Range.{GrantsFit, BodyFits, Valid, GrantsTyped, BodyTyped, Typed}
 use Rattle.frame.specs.declared.Grant.{Grant}
@@ -20,11 +21,11 @@ both : {a b : Bool} → a ≡ true → b ≡ true → (a && b) ≡ true
 both {a} {b} p q = and-eq-true-iff a b .1 (p, q)
 
 -- a length or sync time that passes the test has its two octets, and back
-short : (n : ℕ) → leb n 0xFFFF ≡ true → n < 2 ^ 16
-short n e = omega (arith, leb-true n 0xFFFF e)
+short : (n : ℕ) → leb n most ≡ true → n < 2 ^ 16
+short n e = omega (arith, leb-true n most e)
 
-short-of : (n : ℕ) → n < 2 ^ 16 → leb n 0xFFFF ≡ true
-short-of n h = le-leb n 0xFFFF (omega arith)
+short-of : (n : ℕ) → n < 2 ^ 16 → leb n most ≡ true
+short-of n h = le-leb n most (omega arith)
 
 all-fit : (gs : List Grant) (t : Bool) → GrantsTyped gs → fitsAll t gs ≡ true → (t ≡ true) × GrantsFit gs
 all-fit [] t h e = (e, tt)
@@ -40,7 +41,7 @@ fit-all (g ∷ gs) t e h = fit-all gs (t && fitsGrant g) (both e (short-of (g .l
 body-fit : (b : Body) → BodyTyped b → fitsBody b ≡ true → BodyFits b
 body-fit (Gate g) h e = all-fit (listed g) true h e .1
 body-fit (Discovery g sync) h e =
-    let p = and-eq-true-iff (fitsGrant g) (leb (sync .0) 0xFFFF) .0 e in
+    let p = and-eq-true-iff (fitsGrant g) (fits sync) .0 e in
     ((h, short (g .length .0) (p .0)), short (sync .0) (p .1))
 body-fit Report h e = tt
 body-fit (RegisterReq flag pending) h e = h

@@ -2,8 +2,7 @@
 ghost use mathlib.Core.Path.{_≡_};
 ghost use mathlib.Core.Bool.{true};
 ghost use Rattle.frame.specs.Layout.{listed};
-ghost use Rattle.frame_range.specs.Fits.{fitsAddress, isIndividual, fitsLength, fitsGrant, fitsAll, fitsBody, fitsMessage};
-use clock::Quanta;
+ghost use Rattle.frame_range.specs.Fits.{fitsAddress, isIndividual, fitsGrant, fitsAll, fitsBody, fitsMessage};
 use frame::Address;
 use frame::Body;
 use frame::Grant;
@@ -25,19 +24,11 @@ pub fn individual(a: Address) -> bool
     address(a) & (0 < n) & ((n >> 40) % 2 == 0)
 }
 
-// A length or a sync time.
-pub fn length(q: Quanta) -> bool
-    ensures { λ r. ⌜ r ≡ fitsLength q ⌝ }
-{
-    let longest = Grant::LONGEST;
-    q.0 <= longest.0
-}
-
 fn grant(g: Grant) -> bool
     ensures { λ r. ⌜ r ≡ fitsGrant g ⌝ }
 {
-    let long = g.length;
-    length(long)
+    let length = g.length;
+    length.fits()
 }
 
 pub fn grants(g: Grants) -> bool
@@ -57,7 +48,7 @@ fn body(b: Body) -> bool
 {
     match b {
         Body::Gate(g) => grants(g),
-        Body::Discovery { grant: g, sync } => grant(g) & length(sync),
+        Body::Discovery { grant: g, sync } => grant(g) & sync.fits(),
         Body::Report => true,
         Body::RegisterReq {
             flag: _,
@@ -68,12 +59,12 @@ fn body(b: Body) -> bool
             flag: _,
             sync,
             pending: _,
-        } => length(sync),
+        } => sync.fits(),
         Body::RegisterAck {
             flag: _,
             port: _,
             sync,
-        } => length(sync),
+        } => sync.fits(),
     }
 }
 

@@ -10,7 +10,7 @@ use lib.Dec.{eqb, leb}
 use lib.ListN.{length}
 use Rattle.laws.specs.Cases.{either}
 use Rattle.clock.specs.Counts.{roundTrip}
-use Rattle.clock.specs.Numbers.{inReach}
+use Rattle.clock.specs.Numbers.{inReach, fits}
 use Rattle.frame.specs.Card.{Test, _unless_, given, numberOf}
 use Rattle.frame.specs.Tests.{Passed, Each, given-either}
 use Rattle.frame.specs.Ways.{goesToHead}
@@ -18,7 +18,7 @@ use Rattle.frame.specs.declared.Body.the-variants.{Gate, Discovery, Register}
 use Rattle.frame.specs.declared.RegisterFlag.{RegisterFlag}
 use Rattle.frame.specs.declared.Reply.{Reply}
 use Rattle.frame.specs.declared.Reply.the-variants.{Range, Direction, State, Party, Grant, Held, Full, Output, Unsound}
-use Rattle.frame_range.specs.Fits.{fitsLength, fitsMessage}
+use Rattle.frame_range.specs.Fits.{fitsMessage}
 use Rattle.head_gating.specs.Asked.{grantsOf, fits as fitsAsked}
 use Rattle.head_state.specs.Head.{withWindow, tickOf, soundOf}
 use Rattle.head_state.specs.Window.{isIdle, opened}
@@ -54,7 +54,7 @@ tests (Call.Reject a pending sync) h f = Range unless fitsParty a sync ∷ []
 tests (Call.Reregister link sync) h f =
     Reply.Link unless isHeld (f .link .state)
     ∷ State unless isRegistered (f .link .state)
-    ∷ Range unless fitsLength sync
+    ∷ Range unless fits sync
     ∷ []
 tests (Call.Deregister link) h f =
     Reply.Link unless isHeld (f .link .state)

@@ -6,6 +6,7 @@ use mathlib.Core.Bool.{true, and-eq-true-iff}
 use native.Mathlib.Omega.{arith}
 use lib.Dec.{eqb, ltb}
 use Rattle.laws.specs.Cases.{either}
+use Rattle.clock.specs.Numbers.{fits}
 use Rattle.clock.specs.Timers.{ticked}
 use Rattle.clock.specs.declared.Quanta.{Quanta}
 use Rattle.frame.specs.Layout.{listed}
@@ -15,7 +16,7 @@ use Rattle.frame.specs.declared.Address.{Address}
 use Rattle.frame.specs.declared.Body.the-variants.{Gate}
 use Rattle.frame.specs.declared.Grants.{Grants}
 use Rattle.frame.specs.declared.Grants.the-variants.{None}
-use Rattle.frame_range.specs.Fits.{fitsAddress, fitsLength, fitsAll, fitsBody}
+use Rattle.frame_range.specs.Fits.{fitsAddress, fitsAll, fitsBody}
 use Rattle.head_gating.specs.Asked.{grantsOf, allowed, fits as fitsAsked}
 use Rattle.head_gating.specs.declared.Asked.{Asked}
 use Rattle.head_state.specs.declared.Head.{Head}
@@ -72,8 +73,8 @@ tick-sends Registered l port a k = watchdog-sends l port a k
 
 -- what a change carries is in range
 abbrev pub ChangeFits : Change → Type 0
-ChangeFits (Change.Admit a pending sync) = (fitsAddress a ≡ true) × (fitsLength sync ≡ true) × (pending < 2 ^ 8)
-ChangeFits (Change.Reregister sync) = fitsLength sync ≡ true
+ChangeFits (Change.Admit a pending sync) = (fitsAddress a ≡ true) × (fits sync ≡ true) × (pending < 2 ^ 8)
+ChangeFits (Change.Reregister sync) = fits sync ≡ true
 ChangeFits Change.Deregister = Unit {0}
 ChangeFits (Change.Gate grants) = (fitsAll true (listed grants) ≡ true) × GrantsTyped (listed grants)
 ChangeFits Change.Register = Unit {0}
@@ -112,7 +113,7 @@ asked-fits : (asked : Asked) → fitsAsked asked ≡ true → fitsAll true (list
 unfolding fitsAsked
 asked-fits asked h = and-eq-true-iff (ltb (asked .force) (allowed (asked .number))) (fitsAll true (listed (grantsOf asked))) .0 h .1
 
-party-fits : (a : Address) (sync : Quanta) → fitsParty a sync ≡ true → (fitsAddress a ≡ true) × (fitsLength sync ≡ true)
+party-fits : (a : Address) (sync : Quanta) → fitsParty a sync ≡ true → (fitsAddress a ≡ true) × (fits sync ≡ true)
 party-fits a sync h =
     let p = party-parts a sync h in
     (individual-fits a (p .0), p .1)

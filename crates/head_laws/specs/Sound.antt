@@ -7,11 +7,12 @@ use mathlib.Core.List.{List}
 use native.Mathlib.Omega.{arith}
 use borrow.Author.Tests.{not-true}
 use lib.ListN.{length}
+use Rattle.clock.specs.Numbers.{fits}
 use Rattle.clock.specs.Counts.{nextOf}
 use Rattle.clock.specs.declared.Quanta.{Quanta}
 use Rattle.frame.specs.Tests.{Passed}
 use Rattle.frame.specs.declared.Address.{Address}
-use Rattle.frame_range.specs.Fits.{isIndividual, fitsLength}
+use Rattle.frame_range.specs.Fits.{isIndividual}
 use Rattle.head_state.specs.Head.{soundOf, afterOf}
 use Rattle.head_state.specs.declared.Head.{Head}
 use Rattle.head_links.specs.Link.{isRegistered}
@@ -56,9 +57,9 @@ pub facts-quiet : (xs : List Link) (k : Look) → isFew (length xs) ≡ true →
 unfolding factsOf
 facts-quiet xs k n = rw n
 
-pub party-parts : (a : Address) (sync : Quanta) → fitsParty a sync ≡ true → (isIndividual a ≡ true) × (fitsLength sync ≡ true)
+pub party-parts : (a : Address) (sync : Quanta) → fitsParty a sync ≡ true → (isIndividual a ≡ true) × (fits sync ≡ true)
 unfolding fitsParty
-party-parts a sync = and-eq-true-iff (isIndividual a) (fitsLength sync) .0
+party-parts a sync = and-eq-true-iff (isIndividual a) (fits sync) .0
 
 heeds-fits : (e : Event) (l : Link) (link : ℕ) (xs : List Link) → l ≡ linkFrom link 1 xs → Heeds e l link → Fits e xs
 heeds-fits Event.Nothing l link xs q t = tt

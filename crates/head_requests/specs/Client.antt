@@ -4,7 +4,7 @@ use Prim.Native.Nat.{ℕ}
 use mathlib.Core.Bool.{Bool, false, not, _&&_}
 use mathlib.Core.List.{[], _∷_}
 use lib.Dec.{eqb, leb}
-use Rattle.clock.specs.Numbers.{startInRange, serves}
+use Rattle.clock.specs.Numbers.{startInRange, serves, fits}
 use Rattle.clock.specs.declared.Count.{Count}
 use Rattle.clock.specs.declared.Quanta.{Quanta}
 use Rattle.frame.specs.Card.{_unless_, given}
@@ -13,7 +13,7 @@ use Rattle.frame.specs.declared.Body.the-variants.{Discovery, Register}
 use Rattle.frame.specs.declared.RegisterFlag.{RegisterFlag}
 use Rattle.frame.specs.declared.Reply.{Reply}
 use Rattle.frame.specs.declared.Reply.the-variants.{Range, State, Grant, Held, Full}
-use Rattle.frame_range.specs.Fits.{isIndividual, fitsLength}
+use Rattle.frame_range.specs.Fits.{isIndividual}
 use Rattle.head_gating.specs.Asked.{grantsOf, fits as fitsAsked}
 use Rattle.head_gating.specs.declared.Asked.{Asked}
 use Rattle.head_state.specs.Head.{withWindow}
@@ -29,7 +29,7 @@ use Rattle.head_plans.specs.declared.Plan.{Plan}
 
 -- R47
 unfoldable pub fitsLengths : Quanta → Quanta → Bool
-fitsLengths length sync = fitsLength length && fitsLength sync
+fitsLengths length sync = fits length && fits sync
 
 -- R158
 unfoldable pub mayOpen : Count → Count → Quanta → Quanta → Quanta → Bool
@@ -49,7 +49,7 @@ openOf h start length sync window =
 
 -- R166
 unfoldable pub fitsParty : Address → Quanta → Bool
-fitsParty a sync = isIndividual a && fitsLength sync
+fitsParty a sync = isIndividual a && fits sync
 
 -- R162, R163
 unfoldable pub admitOf : Head → Facts → Address → ℕ → Quanta → Plan
@@ -72,7 +72,7 @@ reregisterOf h l link sync =
     given
     (Reply.Link unless isHeld (l .state)
     ∷ State unless isRegistered (l .state)
-    ∷ Range unless fitsLength sync
+    ∷ Range unless fits sync
     ∷ [])
     (refused h) (accepted h (At link (Change.Reregister sync)))
 

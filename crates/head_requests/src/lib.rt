@@ -20,7 +20,7 @@ use head_table::Event;
 fn fits_lengths(length: Quanta, sync: Quanta) -> bool
     ensures { λ r. ⌜ r ≡ fitsLengths length sync ⌝ }
 {
-    frame_range::length(length) & frame_range::length(sync)
+    length.fits() & sync.fits()
 }
 
 // The grant has a start within reach and room for a REGISTER_REQ, and the window a length that it may have.
@@ -57,7 +57,7 @@ pub fn open(head: Head, start: Count, length: Quanta, sync: Quanta, window: Quan
 fn fits_party(address: Address, sync: Quanta) -> bool
     ensures { λ r. ⌜ r ≡ fitsParty address sync ⌝ }
 {
-    frame_range::individual(address) & frame_range::length(sync)
+    frame_range::individual(address) & sync.fits()
 }
 
 pub fn admit(head: Head, f: Facts, address: Address, pending: u8, sync: Quanta) -> Plan
@@ -104,7 +104,7 @@ pub fn reregister(head: Head, l: Link, link: usize, sync: Quanta) -> Plan
     if !l.is_registered() {
         return Plan::refused(head, Reply::State);
     }
-    if !frame_range::length(sync) {
+    if !sync.fits() {
         return Plan::refused(head, Reply::Range);
     }
     Plan::accepted(head, Event::At(link, Change::Reregister(sync)))

@@ -133,7 +133,8 @@ impl Window {
                     };
                 }
                 if left <= k {
-                    return Window::inside_after(Timer { left: length.0 }, k - left);
+                    let whole = Timer::stopped().start(length);
+                    return Window::inside_after(whole, k - left);
                 }
                 Window::Before {
                     timer: passed,

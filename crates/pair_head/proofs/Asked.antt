@@ -11,6 +11,7 @@ use borrow.Author.Tests.{ne-eqb}
 use lib.Dec.{eqb}
 use lib.ListN.{length}
 use Rattle.laws.specs.Cases.{decided}
+use Rattle.clock.specs.Numbers.{fits}
 use Rattle.clock.specs.declared.Count.{Count}
 use Rattle.clock.specs.declared.Quanta.{Quanta}
 use Rattle.frame.specs.Layout.{encode}
@@ -19,7 +20,7 @@ use Rattle.frame.specs.declared.Address.{Address}
 use Rattle.frame.specs.declared.Body.the-variants.{Discovery, Register}
 use Rattle.frame.specs.declared.Message.{Message}
 use Rattle.frame.specs.declared.RegisterFlag.{RegisterFlag}
-use Rattle.frame_range.specs.Fits.{isIndividual, fitsLength}
+use Rattle.frame_range.specs.Fits.{isIndividual}
 use Rattle.head_state.specs.Head.{withWindow}
 use Rattle.head_state.specs.Window.{isIdle, opened}
 use Rattle.head_links.specs.Link.{idle, isHeld, isRegistered}
@@ -72,11 +73,11 @@ module _ {out : List ℕ} {s : HeadState} (y : Ready out s) (A : Address) where
     abbrev admit : Call
     admit = Call.Admit A pending sync
 
-    admit-passes : isIndividual A ≡ true → fitsLength sync ≡ true → ¬ Holds (HeadEnd A) s → eqb (idleFrom 1 xs) 0 ≡ false
+    admit-passes : isIndividual A ≡ true → fits sync ≡ true → ¬ Holds (HeadEnd A) s → eqb (idleFrom 1 xs) 0 ≡ false
         → Passed (tests admit (s .head) (known xs admit))
     unfolding fitsParty
     admit-passes a b off i = (
-      and-eq-true-iff (isIndividual A) (fitsLength sync) .1 (a, b),
+      and-eq-true-iff (isIndividual A) (fits sync) .1 (a, b),
       (
         ap not (facts-held xs (lookOf admit) few ∙ none-held off),
         (ap not (ap (λ (j : ℕ). eqb j 0) (facts-idle xs (lookOf admit) few) ∙ i), tt),
@@ -84,7 +85,7 @@ module _ {out : List ℕ} {s : HeadState} (y : Ready out s) (A : Address) where
     )
 
     -- the lowest idle link waits, and REGISTER ack goes out
-    pub admit-waits : isIndividual A ≡ true → fitsLength sync ≡ true → pending < 2 ^ 8 → ¬ Holds (HeadEnd A) s
+    pub admit-waits : isIndividual A ≡ true → fits sync ≡ true → pending < 2 ^ 8 → ¬ Holds (HeadEnd A) s
         → (n : ℕ) → Has 1 xs n → isHeld (linkAt s n .state) ≡ false
         → (let x = asked s admit out in
         Taken out x

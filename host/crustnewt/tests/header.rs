@@ -1,12 +1,14 @@
-//! The wrapper's numbers are the header's.
+//! The wrapper's numbers are the header's, and so is the version.
 
 use crustnewt::{sys, Refusal};
 use std::collections::HashMap;
 
+const HEADER: &str = include_str!("../../../include/crustnewt.h");
+const CHANGES: &str = include_str!("../../../CHANGELOG.md");
+
 /// Every `#define NAME NUMBER` and `NAME = NUMBER` of the header.
 fn numbers() -> HashMap<&'static str, usize> {
-    let header = include_str!("../../../include/crustnewt.h");
-    let code = header
+    let code = HEADER
         .lines()
         .map(|line| line.trim().trim_start_matches("#define "));
     let pairs = code.filter_map(|line| {
@@ -48,4 +50,18 @@ fn refusals_are_the_headers() {
     }
     assert_eq!(Refusal::of(0), None);
     assert_eq!(Refusal::of(15), None);
+}
+
+#[test]
+fn the_version_is_one() {
+    let version = env!("CARGO_PKG_VERSION");
+    let defined = format!("#define CRUSTNEWT_VERSION \"{version}\"");
+    assert!(HEADER.lines().any(|line| line == defined));
+    let numbers = numbers();
+    let named = ["MAJOR", "MINOR", "PATCH"];
+    let parts = named.map(|part| numbers[format!("VERSION_{part}").as_str()].to_string());
+    assert_eq!(parts.join("."), version);
+    let newest = CHANGES.lines().find(|line| line.starts_with("## "));
+    let newest = newest.unwrap().trim_start_matches("## ");
+    assert_eq!(newest.split(',').next(), Some(version));
 }

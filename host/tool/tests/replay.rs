@@ -1,4 +1,4 @@
-//! Scripts and their answers, worked by hand from the replay language's page.
+//! Scripts and their answers, worked by hand from `docs/REPLAY.md` and the rules.
 
 use crustnewt_tool::cores::CORES;
 use crustnewt_tool::replay::replay;

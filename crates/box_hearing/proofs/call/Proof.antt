@@ -17,12 +17,18 @@ randomly-requires c κs = search needs
 returns : tie.Need-returns
 returns c = rw (c .randomly .ensures, c .before .before .before .way .given .1, eq-eqb _ _ (c .before .if1 .taken))
 
+stopped-requires : tie.Need-stopped-requires
+stopped-requires c κs = search needs
+
+start-requires : tie.Need-start-requires
+start-requires c κs = search needs
+
 returns-2 : tie.Need-returns-2
 returns-2 c = search needs
 
 returns-3 : tie.Need-returns-3
-returns-3 c = rw (c .before .before .way .given .1, ne-eqb _ _ (c .if1 .left))
+returns-3 c = rw (c .start .ensures, c .before .before .before .before .way .given .1, ne-eqb _ _ (c .before .before .if1 .left))
 
 pub call-spec : {M : Type 1} → statement M
 call-spec =
-    tie.close (tie.spec enum-told enum-known-way randomly-requires returns returns-2 returns-3)
+    tie.close (tie.spec enum-told enum-known-way randomly-requires stopped-requires start-requires returns returns-2 returns-3)

@@ -20,13 +20,19 @@ abbrev μ-loop : tie.MeasureT-loop
 μ-loop b end short₀ i₀ short i = end - i
 
 loop-holds : tie.Need-loop-holds Inv-loop μ-loop
-loop-holds c = ((omega arith, omega arith), short-walk true (drop 13 (take (c .args .end) (c .args .b .now))))
+loop-holds c = ((omega arith, omega arith), short-walk true (drop 13 (take (c .before .args .end) (c .before .args .b .now))))
 
-mul-short : tie.Need-mul-short Inv-loop μ-loop
-mul-short c = search needs
+mul-lower : tie.Need-mul-lower Inv-loop μ-loop
+mul-lower c = search needs
 
-shared-slice-read-short : tie.Need-shared-slice-read-short Inv-loop μ-loop
-shared-slice-read-short c = search needs
+shared-slice-read-lower : tie.Need-shared-slice-read-lower Inv-loop μ-loop
+shared-slice-read-lower c = search needs
+
+lower-requires : tie.Need-lower-requires Inv-loop μ-loop
+lower-requires c κs = search needs
+
+cast-short : tie.Need-cast-short Inv-loop μ-loop
+cast-short c = search needs
 
 add-i : tie.Need-add-i Inv-loop μ-loop
 add-i c = search needs
@@ -35,10 +41,19 @@ loop-less : tie.Need-loop-less Inv-loop μ-loop
 loop-less c = search needs
 
 loop-again : tie.Need-loop-again Inv-loop μ-loop
-loop-again c = (c .before .before .loop .inv .0, walk-again fitted (c .before .before .before .args .b .now) (c .before .before .before .args .end) 0 _ _ _ _ (c .before .loop-test .taken) (omega (arith, c .before .before .loop .inv .0 .0, c .before .before .loop .inv .0 .1)) refl (c .before .before .loop .inv .1))
+loop-again c =
+    let i = c .before .before .before in
+    let here = i .loop .inv in
+    (
+      here .0,
+      walk-again fitted (i .before .before .args .b .now) (i .before .before .args .end) 0 _ _ _ _ (c .before .before .loop-test .taken)
+      (omega (arith, here .0 .0, here .0 .1))
+      (rw (c .lower .ensures))
+      (here .1),
+    )
 
 returns : tie.Need-returns Inv-loop μ-loop
-returns c = walk-done fitted (c .before .before .args .b .now) (c .before .before .args .end) _ _ _ (c .loop-test .left) (c .before .loop .inv .1)
+returns c = walk-done fitted (c .before .before .before .args .b .now) (c .before .before .before .args .end) _ _ _ (c .loop-test .left) (c .before .loop .inv .1)
 
 pub are-short-spec : {M : Type 1} → statement M
 are-short-spec =
@@ -47,8 +62,10 @@ are-short-spec =
     Inv-loop
     μ-loop
     loop-holds
-    mul-short
-    shared-slice-read-short
+    mul-lower
+    shared-slice-read-lower
+    lower-requires
+    cast-short
     add-i
     loop-less
     loop-again

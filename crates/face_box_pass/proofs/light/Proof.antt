@@ -37,6 +37,12 @@ returns-4 : tie.Need-returns-4
 unfolding lightOf
 returns-4 c = rw (ne-eqb _ _ (c .before .before .before .if1 .left), eq-eqb _ _ (c .before .before .if3 .taken), ← c .before .is-served .ensures, c .if4 .left)
 
+lower-requires : tie.Need-lower-requires
+lower-requires c κs = search needs
+
+cast-is-served : tie.Need-cast-is-served
+cast-is-served c = search needs
+
 is-served-requires-2 : tie.Need-is-served-requires-2
 is-served-requires-2 c κs = search needs
 
@@ -45,11 +51,30 @@ rings-in-requires-3 c κs = search needs
 
 returns-5 : tie.Need-returns-5
 unfolding lightOf
-returns-5 c = rw (c .rings-in3 .ensures, ne-eqb _ _ (c .before .before .before .before .before .if1 .left), ne-eqb _ _ (c .before .before .before .before .if3 .left), eq-eqb _ _ (c .before .before .before .if5 .taken), ← c .before .before .is-served2 .ensures, c .before .if6 .taken)
+returns-5 c =
+    let i = c .before .before .before .before in
+    rw (
+      c .rings-in3 .ensures,
+      ne-eqb _ _ (i .before .before .if1 .left),
+      ne-eqb _ _ (i .before .if3 .left),
+      eq-eqb _ _ (i .if5 .taken),
+      ← c .before .before .before .lower .ensures,
+      ← c .before .before .is-served2 .ensures,
+      c .before .if6 .taken,
+    )
 
 returns-6 : tie.Need-returns-6
 unfolding lightOf
-returns-6 c = rw (ne-eqb _ _ (c .before .before .before .before .if1 .left), ne-eqb _ _ (c .before .before .before .if3 .left), eq-eqb _ _ (c .before .before .if5 .taken), ← c .before .is-served2 .ensures, c .if6 .left)
+returns-6 c =
+    let i = c .before .before .before in
+    rw (
+      ne-eqb _ _ (i .before .before .if1 .left),
+      ne-eqb _ _ (i .before .if3 .left),
+      eq-eqb _ _ (i .if5 .taken),
+      ← c .before .before .lower .ensures,
+      ← c .before .is-served2 .ensures,
+      c .if6 .left,
+    )
 
 discovery-requires : tie.Need-discovery-requires
 discovery-requires c κs = search needs
@@ -70,6 +95,8 @@ light-spec =
     rings-in-requires-2
     returns-3
     returns-4
+    lower-requires
+    cast-is-served
     is-served-requires-2
     rings-in-requires-3
     returns-5

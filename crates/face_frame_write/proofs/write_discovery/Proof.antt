@@ -9,6 +9,9 @@ use Rattle.face_frame_write.proofs.write_discovery.Tie as tie
 header-in-requires : tie.Need-header-in-requires
 header-in-requires c κs = search needs
 
+grant-in-requires : tie.Need-grant-in-requires
+grant-in-requires c κs = search needs
+
 begin-requires : tie.Need-begin-requires
 begin-requires c κs = search needs
 
@@ -37,7 +40,8 @@ returns c =
       c .before .before .before .before .before .before .before .before .before .before .lay .ensures,
       c .before .before .before .before .before .before .before .before .before .before .before .first-octet .ensures,
       c .before .before .before .before .before .before .before .before .before .before .before .before .before .before .before .begin .ensures,
-      ← i .before .header-in .ensures,
+      ← i .before .before .header-in .ensures,
+      ← i .before .grant-in .ensures,
       i .if1 .taken,
     )
 
@@ -53,7 +57,8 @@ returns-2 c =
     let i = c .before .before .before .before in
     rw (
       c .before .before .refuse .ensures,
-      ← i .before .header-in .ensures,
+      ← i .before .before .header-in .ensures,
+      ← i .before .grant-in .ensures,
       i .if1 .left,
     )
 
@@ -62,6 +67,7 @@ write-discovery-spec =
     tie.close
     (tie.spec
     header-in-requires
+    grant-in-requires
     begin-requires
     first-octet-requires
     lay-requires

@@ -16,8 +16,8 @@ enum-known-b-2 c = search needs
 grant-requires : tie.Need-grant-requires
 grant-requires c κs = search needs
 
-length-requires : tie.Need-length-requires
-length-requires c κs = search needs
+fits-requires : tie.Need-fits-requires
+fits-requires c κs = search needs
 
 enum-told : tie.Need-enum-told
 enum-told c = search needs
@@ -28,20 +28,20 @@ enum-told-2 c = search needs
 enum-known-b-3 : tie.Need-enum-known-b-3
 enum-known-b-3 c = search needs
 
-length-requires-2 : tie.Need-length-requires-2
-length-requires-2 c κs = search needs
+fits-requires-2 : tie.Need-fits-requires-2
+fits-requires-2 c κs = search needs
 
 enum-known-b-4 : tie.Need-enum-known-b-4
 enum-known-b-4 c = search needs
 
-length-requires-3 : tie.Need-length-requires-3
-length-requires-3 c κs = search needs
+fits-requires-3 : tie.Need-fits-requires-3
+fits-requires-3 c κs = search needs
 
 returns : tie.Need-returns
 returns c = search needs
 
 returns-2 : tie.Need-returns-2
-returns-2 c = rw (c .length .ensures, c .before .grant .ensures, c .before .before .before .b2 .given .1)
+returns-2 c = rw (c .fits2 .ensures, c .before .grant .ensures, c .before .before .before .b2 .given .1)
 
 returns-3 : tie.Need-returns-3
 returns-3 c = search needs
@@ -50,10 +50,10 @@ returns-4 : tie.Need-returns-4
 returns-4 c = search needs
 
 returns-5 : tie.Need-returns-5
-returns-5 c = rw (c .length2 .ensures, c .before .before .b3 .given .1)
+returns-5 c = rw (c .fits3 .ensures, c .before .before .b3 .given .1)
 
 returns-6 : tie.Need-returns-6
-returns-6 c = rw (c .length3 .ensures, c .before .before .b4 .given .1)
+returns-6 c = rw (c .fits4 .ensures, c .before .before .b4 .given .1)
 
 pub body-spec : {M : Type 1} → statement M
 body-spec =
@@ -63,13 +63,13 @@ body-spec =
     grants-requires
     enum-known-b-2
     grant-requires
-    length-requires
+    fits-requires
     enum-told
     enum-told-2
     enum-known-b-3
-    length-requires-2
+    fits-requires-2
     enum-known-b-4
-    length-requires-3
+    fits-requires-3
     returns
     returns-2
     returns-3

@@ -38,8 +38,8 @@ returns-2 c =
       not-true (c .before .before .is-registered .result) (c .before .if2 .taken),
     )
 
-length-requires : tie.Need-length-requires
-length-requires c κs = search needs
+fits-requires : tie.Need-fits-requires
+fits-requires c κs = search needs
 
 refused-requires-3 : tie.Need-refused-requires-3
 refused-requires-3 c κs = search needs
@@ -53,8 +53,8 @@ returns-3 c =
       not-false (c .before .before .before .before .before .before .is-held .result) (c .before .before .before .before .before .if1 .left),
       ← c .before .before .before .before .is-registered .ensures,
       not-false (c .before .before .before .before .is-registered .result) (c .before .before .before .if2 .left),
-      ← c .before .before .length .ensures,
-      not-true (c .before .before .length .result) (c .before .if3 .taken),
+      ← c .before .before .fits2 .ensures,
+      not-true (c .before .before .fits2 .result) (c .before .if3 .taken),
     )
 
 accepted-requires : tie.Need-accepted-requires
@@ -69,8 +69,8 @@ returns-4 c =
       not-false (c .before .before .before .before .before .before .is-held .result) (c .before .before .before .before .before .if1 .left),
       ← c .before .before .before .before .is-registered .ensures,
       not-false (c .before .before .before .before .is-registered .result) (c .before .before .before .if2 .left),
-      ← c .before .before .length .ensures,
-      not-false (c .before .before .length .result) (c .before .if3 .left),
+      ← c .before .before .fits2 .ensures,
+      not-false (c .before .before .fits2 .result) (c .before .if3 .left),
     )
 
 pub reregister-spec : {M : Type 1} → statement M
@@ -83,7 +83,7 @@ reregister-spec =
     is-registered-requires
     refused-requires-2
     returns-2
-    length-requires
+    fits-requires
     refused-requires-3
     returns-3
     accepted-requires

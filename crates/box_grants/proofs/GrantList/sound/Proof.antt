@@ -40,6 +40,9 @@ mul-e c = search needs
 array-copy-out-e : tie.Need-array-copy-out-e Inv-loop μ-loop
 array-copy-out-e c = search needs
 
+fits-requires : tie.Need-fits-requires Inv-loop μ-loop
+fits-requires c κs = search needs
+
 add-i : tie.Need-add-i Inv-loop μ-loop
 add-i c = search needs
 
@@ -52,7 +55,7 @@ loop-again c =
     let at = in-loop .before in (
       omega arith,
       omega arith,
-      walk-again _ _ _ none _ _ _ _ (in-loop .loop-test .taken) (room (at .before .before)) refl (at .loop .inv .2),
+      walk-again _ _ _ none _ _ _ _ (in-loop .loop-test .taken) (room (at .before .before)) (rw (c .fits2 .ensures)) (at .loop .inv .2),
     )
 
 returns : tie.Need-returns Inv-loop μ-loop
@@ -74,6 +77,7 @@ sound-spec =
     loop-holds
     mul-e
     array-copy-out-e
+    fits-requires
     add-i
     loop-less
     loop-again

@@ -31,6 +31,12 @@ with-beam-requires-3 c κs = search needs
 enum-told-2 : tie.Need-enum-told-2
 enum-told-2 c = search needs
 
+stopped-requires : tie.Need-stopped-requires
+stopped-requires c κs = search needs
+
+start-requires : tie.Need-start-requires
+start-requires c κs = search needs
+
 with-beam-requires-4 : tie.Need-with-beam-requires-4
 with-beam-requires-4 c κs = search needs
 
@@ -71,7 +77,7 @@ returns-3 : tie.Need-returns-3
 returns-3 c = rw (c .with-beam3 .ensures, c .before .laser-on .ensures, c .before .before .before .self2 .given .1)
 
 returns-4 : tie.Need-returns-4
-returns-4 c = rw (c .with-beam4 .ensures, c .before .enum-told2 .given .1)
+returns-4 c = rw (c .with-beam4 .ensures, c .before .start .ensures, c .before .before .before .enum-told2 .given .1)
 
 returns-5 : tie.Need-returns-5
 returns-5 c = rw (c .with-beam5 .ensures, c .before .enum-told3 .given .1)
@@ -98,6 +104,8 @@ after-spec =
     laser-on-requires
     with-beam-requires-3
     enum-told-2
+    stopped-requires
+    start-requires
     with-beam-requires-4
     enum-told-3
     with-beam-requires-5

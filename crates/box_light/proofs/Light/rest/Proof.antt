@@ -20,22 +20,28 @@ add-gone c = search needs
 cast-whole : tie.Need-cast-whole
 cast-whole c = search needs
 
-cast-t10 : tie.Need-cast-t10
-cast-t10 c = search needs
-
-returns : tie.Need-returns
-unfolding restOf
-returns c = refl
+cast-left : tie.Need-cast-left
+cast-left c = search needs
 
 stopped-requires : tie.Need-stopped-requires
 stopped-requires c κs = search needs
+
+start-requires : tie.Need-start-requires
+start-requires c κs = search needs
+
+returns : tie.Need-returns
+unfolding restOf
+returns c = rw (c .start .ensures)
+
+stopped-requires-2 : tie.Need-stopped-requires-2
+stopped-requires-2 c κs = search needs
 
 returns-2 : tie.Need-returns-2
 unfolding restOf
 returns-2 c =
     let a = c .before .before .before .before .before .args in
     let none : 0 ≡ a .length .0 - (32 + a .sync .0) = omega arith in
-    rw (c .stopped .ensures) (ap (λ (n : ℕ). record { left = n }) none)
+    rw (c .stopped2 .ensures) (ap (λ (n : ℕ). record { left = n }) none)
 
 pub rest-spec : {M : Type 1} → statement M
 rest-spec =
@@ -45,7 +51,9 @@ rest-spec =
     cast-gone-2
     add-gone
     cast-whole
-    cast-t10
-    returns
+    cast-left
     stopped-requires
+    start-requires
+    returns
+    stopped-requires-2
     returns-2)

@@ -5,15 +5,18 @@ use Rattle.box_light.specs.Sound.{served}
 use Rattle.box_light.proofs.Light.served.Statement.{statement}
 use Rattle.box_light.proofs.Light.served.Tie as tie
 
-cast-n : tie.Need-cast-n
-cast-n c = search needs
-
 needed-requires : tie.Need-needed-requires
 needed-requires c κs = search needs
 
+cast-result : tie.Need-cast-result
+cast-result c = search needs
+
+fits-requires : tie.Need-fits-requires
+fits-requires c κs = search needs
+
 returns : tie.Need-returns
 unfolding served
-returns c = rw (c .needed .ensures)
+returns c = rw (c .fits2 .ensures, c .before .before .needed .ensures)
 
 pub served-spec : {M : Type 1} → statement M
-served-spec = tie.close (tie.spec cast-n needed-requires returns)
+served-spec = tie.close (tie.spec needed-requires cast-result fits-requires returns)

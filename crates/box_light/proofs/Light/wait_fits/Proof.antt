@@ -11,9 +11,12 @@ needed-requires c κs = search needs
 add-result : tie.Need-add-result
 add-result c = search needs
 
+cast-result : tie.Need-cast-result
+cast-result c = search needs
+
 returns : tie.Need-returns
 unfolding waitFits
-returns c = rw (c .needed .ensures)
+returns c = rw (c .before .needed .ensures)
 
 pub wait-fits-spec : {M : Type 1} → statement M
-wait-fits-spec = tie.close (tie.spec needed-requires add-result returns)
+wait-fits-spec = tie.close (tie.spec needed-requires add-result cast-result returns)

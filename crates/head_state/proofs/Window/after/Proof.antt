@@ -19,12 +19,25 @@ returns : tie.Need-returns
 unfolding beforeAfter
 returns c = rw (c .before .passed .ensures, c .before .before .before .self .given .1, eq-eqb _ _ (c .if1 .taken))
 
+stopped-requires : tie.Need-stopped-requires
+stopped-requires c κs = search needs
+
+start-requires : tie.Need-start-requires
+start-requires c κs = search needs
+
 inside-after-requires : tie.Need-inside-after-requires
 inside-after-requires c κs = search needs
 
 returns-2 : tie.Need-returns-2
 unfolding beforeAfter
-returns-2 c = rw (c .inside-after .ensures, c .before .before .before .before .before .self .given .1, ne-eqb _ _ (c .before .before .if1 .left), le-leb _ _ (c .before .if2 .taken))
+returns-2 c =
+    rw (
+      c .inside-after .ensures,
+      c .before .start .ensures,
+      c .before .before .before .before .before .before .before .self .given .1,
+      ne-eqb _ _ (c .before .before .before .before .if1 .left),
+      le-leb _ _ (c .before .before .before .if2 .taken),
+    )
 
 enum-known-self-2 : tie.Need-enum-known-self-2
 enum-known-self-2 c = search needs
@@ -51,6 +64,8 @@ after-spec =
     enum-known-self
     passed-requires
     returns
+    stopped-requires
+    start-requires
     inside-after-requires
     returns-2
     enum-known-self-2
