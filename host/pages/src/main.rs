@@ -7,6 +7,7 @@ use pages::sum::Sum;
 use pages::trace::{RULES, TRACE};
 use pages::tree::Tree;
 use pages::{check, edits, report, rows, rules, trace};
+use std::io::Write;
 use std::path::{Path, PathBuf};
 use std::process::ExitCode;
 use std::{fs, io};
@@ -64,8 +65,8 @@ fn run(command: &str, root: &Path) -> io::Result<ExitCode> {
     let reading = Reading::parse(&read(root, READING)?);
     let reach = Reach::of(&tree, &graph, &reading);
     match command {
-        "reach" => println!("{}", report::reach(&tree, &reach)),
-        "rows" => println!("{}", rows::rows(&tree, &reach)),
+        "reach" => writeln!(io::stdout(), "{}", report::reach(&tree, &reach))?,
+        "rows" => writeln!(io::stdout(), "{}", rows::rows(&tree, &reach))?,
         _ => return checked(root, &tree, &graph, &reading, &reach),
     }
     Ok(ExitCode::SUCCESS)

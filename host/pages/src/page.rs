@@ -8,7 +8,7 @@ use crate::token::{depths, Token};
 /// A page.
 #[derive(Clone, Debug, Default)]
 pub struct Page {
-    /// The first comment line, without its mark.
+    /// The comment at its beginning, in one line, without what it says of assumptions.
     pub heading: String,
     /// How many lines are neither blank nor comments nor `use` lines.
     pub lines: usize,
@@ -31,12 +31,7 @@ impl Page {
             .take_while(|line| line.look == Look::Comment)
             .count();
         let mut page = Page {
-            heading: lines
-                .first()
-                .filter(|_| comments > 0)
-                .map_or("", |line| &line.text[2..])
-                .trim()
-                .into(),
+            heading: heading(&lines[..comments]),
             lines: lines.iter().filter(|line| line.look == Look::Text).count(),
             ..Page::default()
         };
@@ -111,6 +106,12 @@ impl Page {
     }
 }
 
+fn heading(comments: &[Line]) -> String {
+    let words = comments.iter().map(|line| line.text[2..].trim());
+    let said = words.take_while(|words| !words.starts_with("Assumes "));
+    said.collect::<Vec<_>>().join(" ")
+}
+
 fn is_mark(word: &str) -> bool {
     matches!(word, "pub" | "unfoldable" | "abbrev")
 }
@@ -130,7 +131,8 @@ mod tests {
     use super::*;
 
     const TEXT: &str = "\
--- Rules R1 to R3: a page.
+-- Rules R1 to R3: a page
+-- of some lines.
 -- Assumes nothing.
 use a.B.{c}
 pub use a.B.{d}
@@ -185,7 +187,7 @@ module _ (A : Type 0)
             ]
         );
         assert_eq!(page.unread, []);
-        assert_eq!(page.heading, "Rules R1 to R3: a page.");
+        assert_eq!(page.heading, "Rules R1 to R3: a page of some lines.");
         assert_eq!(page.lines, 21);
     }
 

@@ -68,8 +68,17 @@ fn page_row(file: &File) -> String {
     let rules = kind
         .trim_start_matches("Rules ")
         .trim_start_matches("Rule ");
-    let (lines, words) = (file.page.lines, words.trim());
-    format!("| {} | {lines} | {rules} | {words} |", link(&file.path))
+    let sentence = words
+        .split(". ")
+        .next()
+        .unwrap_or("")
+        .trim()
+        .trim_end_matches('.');
+    format!(
+        "| {} | {} | {rules} | {sentence} |",
+        link(&file.path),
+        file.page.lines
+    )
 }
 
 fn type_row(reach: &Reach, code: &Code) -> Option<String> {
@@ -89,4 +98,36 @@ fn link(path: &str) -> String {
     let parts: Vec<&str> = path.split('/').collect();
     let (owner, name) = (parts[1], parts[parts.len() - 1]);
     format!("[{owner}/{name}](../{path})")
+}
+
+#[cfg(test)]
+mod tests {
+    use super::*;
+    use crate::graph::Graph;
+    use crate::reading::Reading;
+
+    #[test]
+    fn pages_stand_behind_what_they_bring_in() {
+        let mut tree = Tree::new("# base: counts\nclock:\ncrustnewt: clock\n");
+        let used = "-- Rule R2: later\n-- on. More.\n-- Assumes nothing.\nb : A\nb = x\n";
+        tree.add("crates/clock/specs/Zero.antt", used);
+        let uses = "-- Rules R3 to R4: all.\nuse Rattle.clock.specs.Zero.{b}\na : A\na = b\n";
+        tree.add("crates/clock/specs/All.antt", uses);
+        let code = "ghost use Rattle.clock.specs.All.{a};\npub fn f(c: Count) -> Count\n    ensures { a }\n{\n}\n";
+        tree.add("crates/crustnewt/src/lib.rt", code);
+        let reach = Reach::of(&tree, &Graph::of(&tree), &Reading::default());
+        let text = rows(&tree, &reach);
+        let found: Vec<&str> = text.lines().filter(|line| line.contains(".antt")).collect();
+        assert_eq!(
+            found,
+            [
+                "| [clock/Zero.antt](../crates/clock/specs/Zero.antt) | 2 | R2 | later on |",
+                "| [clock/All.antt](../crates/clock/specs/All.antt) | 2 | R3 to R4 | all |",
+            ]
+        );
+        assert!(
+            text.starts_with("In all: 4 lines of definitions on 2 pages, and 0 lines of types.")
+        );
+        assert!(text.contains("## base: counts"));
+    }
 }
