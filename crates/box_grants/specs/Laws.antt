@@ -14,7 +14,8 @@ use Rattle.clock.specs.Counts.{isPast, nearer}
 use Rattle.clock.specs.Spans.{none, same, nearerOf}
 use Rattle.clock.specs.declared.Span.{Span}
 use Rattle.box_grants.specs.Activation.{holds, ahead, nearest, remove, settle}
-use Rattle.box_grants.specs.Listed.{listOf, packed, pushed, kept, sifted, choiceOf}
+use Rattle.box_grants.specs.Listed.{listOf, packed, pushed, choiceOf}
+use Rattle.box_grants.specs.Sifting.{kept, sifted}
 use Rattle.box_grants.specs.Sound.{inRange}
 use Rattle.box_grants.specs.declared.GrantList.{GrantList}
 use Rattle.box_grants.specs.declared.Chosen.the-variants.{Nothing, Due}

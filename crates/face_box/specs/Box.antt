@@ -9,7 +9,6 @@ use Rattle.clock.specs.Timers.{stopped}
 use Rattle.clock.specs.declared.Timer.{Timer}
 use Rattle.clock.specs.declared.Span.{Span}
 use Rattle.box_calls.specs.declared.FloorBox.{FloorBox}
-use Rattle.box_grants.specs.declared.GrantList.{GrantList}
 use Rattle.box_light.specs.declared.Light.{Light}
 use Rattle.box_light.specs.declared.Light.the-variants.{Rest, Before, Random, Warming, Asking, Due, Lit, Open}
 use Rattle.box_registration.specs.declared.Registration.{Registration}
@@ -27,9 +26,6 @@ entryWord e = joined (e .start .0) (e .length .0)
 
 abbrev pub entryOf : ℕ → Span
 entryOf w = record { start = record { 0 = upper w }; length = record { 0 = lower w } }
-
-abbrev pub listOf : ℕ → List ℕ → GrantList
-listOf number entries = record { entries = map entryOf entries; number = number }
 
 abbrev pub stateWord : State → ℕ
 stateWord Wait = 0

@@ -2,7 +2,8 @@
 ghost use mathlib.Core.Path.{_≡_};
 ghost use mathlib.Core.List.{map};
 ghost use lib.ListN.{drop};
-ghost use Rattle.face_box.specs.Box.{entryWord, entryOf, stateWord, stateOf, registrationOf, phaseWords, lightWords, discoveryOf, lightOf, listOf, frontWords, frontOf, boxed, isClear, hasWords, boxWords, nobody, boxIn};
+ghost use Rattle.face_box.specs.Box.{entryWord, entryOf, stateWord, stateOf, registrationOf, phaseWords, lightWords, discoveryOf, lightOf, frontWords, frontOf, boxed, isClear, hasWords, boxWords, nobody, boxIn};
+ghost use Rattle.face_box.specs.Listing.{listOf};
 ghost use Rattle.face_box.specs.Laying.{howMany, layout};
 ghost use Rattle.face_box.specs.Told.{kindWords, noticeWords, toldWords};
 ghost use Rattle.face_words.specs.Words.{laid};

@@ -11,7 +11,8 @@ use lib.Dec.{eqb, leb}
 use lib.ListN.{length, take, drop}
 use lib.Seq.{take-take, drop-drop, take-add}
 use Rattle.laws.specs.Cases.{cut}
-use Rattle.face_box.specs.Box.{entryOf, listOf, stateWord, stateOf, registrationOf, lightWords, discoveryOf as discovering, lightOf as lighting, frontWords, frontOf, isClear, hasWords, isBox, boxOf, boxIn}
+use Rattle.face_box.specs.Box.{entryOf, stateWord, stateOf, registrationOf, lightWords, discoveryOf as discovering, lightOf as lighting, frontWords, frontOf, isClear, hasWords, isBox, boxOf, boxIn}
+use Rattle.face_box.specs.Listing.{listOf}
 use Rattle.clock.specs.Timers.{runs, quietOf as timerQuiet}
 use Rattle.clock.specs.Spans.{same}
 use Rattle.face_fields.specs.Fields.{timerOf, quantaOf}

@@ -2,7 +2,8 @@
 ghost use mathlib.Core.Path.{_≡_};
 ghost use Prim.Native.Nat.{_≤_};
 ghost use lib.ListN.{getD, replicate};
-ghost use Rattle.face_head_calls.specs.Calls.{left, answerLeft, begunLeft, advanceLeft, told, isLent, laidHead, keptHead, begunHead, toldOf, answeredOf, refusedOf, servedOf, heardOf, begunOf, quietBy, advancedOf, advanceCall};
+ghost use Rattle.face_head_calls.specs.Answered.{answerLeft, toldOf, answeredOf, quietBy};
+ghost use Rattle.face_head_calls.specs.Calls.{left, begunLeft, advanceLeft, told, isLent, laidHead, keptHead, begunHead, refusedOf, servedOf, heardOf, begunOf, advancedOf, advanceCall};
 ghost use Rattle.face_head_calls.specs.Gate.{leaveOf, askedOf};
 ghost use Rattle.face_head_calls.specs.Lend.{keptOf, lendLeft, lendOf, clearLeft, clearOf};
 ghost use Rattle.face_head_pass.specs.Quiet.{untilCall};
