@@ -132,7 +132,7 @@ fn rules_and_headings() {
     assert_eq!(
         errors_in(&changed, LIST),
         [
-            "crates/clock/specs/More.antt:1: begins with none of: Rule, Rules, Statement, Lemmas, Code",
+            "crates/clock/specs/More.antt:1: begins with none of: Rule, Rules, Statement, Face, Lemmas, Code",
             "crates/clock/specs/Rule.antt:1: begins as a page to believe, and isn't in docs/READING.md",
         ]
     );
