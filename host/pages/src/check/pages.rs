@@ -98,6 +98,9 @@ impl Check<'_> {
                 }
                 (true, _, false) => format!("begins as a page to believe, and isn't in {READING}"),
                 (_, true, true) => format!("is in {READING}, and begins as {kind}"),
+                _ if first.starts_with("Rule") && rules::named(kind).is_empty() => {
+                    "begins with rules, and names none".to_string()
+                }
                 _ => continue,
             };
             self.errors.push(format!("{}:1: {what}", file.path));
