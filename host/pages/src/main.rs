@@ -8,47 +8,27 @@ use pages::trace::{RULES, TRACE};
 use pages::tree::Tree;
 use pages::{check, edits, report, rows, rules, trace};
 use std::io::Write;
-use std::path::{Path, PathBuf};
+use std::path::Path;
 use std::process::ExitCode;
 use std::{fs, io};
 
-const HELP: &str = "\
-Usage: pages check|reach|rows [--root DIR]
-
-Which definitions must be believed: those that the contracts of public
-functions and the statements listed in docs/READING.md reach, each with all
-that its type and its body mention.
-
-  check  holds docs/READING.md and docs/TRACE.md against the crates and
-         docs/RULES.md; a line for each fault
-  reach  says of every page which of its declarations are reached (+), by a
-         promise of the archive (A), a promise of a crate below it (B), a
-         statement (S)
-  rows   writes the tables of the list as the crates are now, a family each
-  --root DIR  the repository (default: the folder that it is run in)
-
-Exit status: 0 if nothing is wrong, 1 if something is, 2 if the command line
-can't be followed or a file can't be read.";
+const HELP: &str = include_str!("../help.txt");
 
 fn main() -> ExitCode {
     let words: Vec<String> = std::env::args().skip(1).collect();
     let words: Vec<&str> = words.iter().map(String::as_str).collect();
-    let (command, root) = match words[..] {
+    let done = match words[..] {
         ["--help" | "-h"] => {
-            println!("{HELP}");
+            print!("{HELP}");
             return ExitCode::SUCCESS;
         }
-        [command @ ("check" | "reach" | "rows")] => (command, "."),
-        [command @ ("check" | "reach" | "rows"), "--root", root] => (command, root),
-        _ => {
-            eprintln!(
-                "pages: can't follow '{}'; see pages --help",
-                words.join(" ")
-            );
-            return ExitCode::from(2);
-        }
+        [command @ ("check" | "reach" | "rows")] => run(command, Path::new(".")),
+        [] => Err(io::Error::other("no command; see `pages --help`")),
+        ["check" | "reach" | "rows", word, ..] | [word, ..] => Err(io::Error::other(format!(
+            "can't follow '{word}'; see `pages --help`"
+        ))),
     };
-    run(command, &PathBuf::from(root)).unwrap_or_else(|error| {
+    done.unwrap_or_else(|error| {
         eprintln!("pages: {error}");
         ExitCode::from(2)
     })
@@ -60,7 +40,7 @@ fn read(root: &Path, path: &str) -> io::Result<String> {
 }
 
 fn run(command: &str, root: &Path) -> io::Result<ExitCode> {
-    let tree = Tree::read(root)?;
+    let tree = Tree::read(root).map_err(|error| io::Error::other(format!("crates: {error}")))?;
     let graph = Graph::of(&tree);
     let reading = Reading::parse(&read(root, READING)?);
     let reach = Reach::of(&tree, &graph, &reading);

@@ -129,13 +129,32 @@ fn rules_and_headings() {
     let mut changed = tree();
     changed.add("crates/clock/specs/More.antt", "-- Document 01.\n");
     changed.add("crates/clock/specs/Rule.antt", "-- Rule R1: more.\n");
+    changed.add(
+        "crates/clock/specs/Aside.antt",
+        "-- Code: as the loop does.\n",
+    );
     assert_eq!(
         errors_in(&changed, LIST),
         [
-            "crates/clock/specs/More.antt:1: begins with none of: Rule, Rules, Statement, Lemmas, Code",
+            "crates/clock/specs/More.antt:1: begins with none of: Rule, Rules, Statement, Face, Lemmas, Code",
             "crates/clock/specs/Rule.antt:1: begins as a page to believe, and isn't in docs/READING.md",
         ]
     );
+}
+
+#[test]
+fn rules_are_named() {
+    let changed = tree_with("-- Rules R1 to R2: counts.", "-- Rules: counts.");
+    assert_eq!(
+        errors_in(&changed, LIST),
+        [
+            "docs/READING.md:20: the heading of crates/clock/specs/Counts.antt has other rules: Rules",
+            "crates/clock/specs/Counts.antt:1: begins with rules, and names none",
+        ]
+    );
+    let changed = tree_with("-- Statement: a count", "-- Lemmas: a count");
+    let aside = "crates/clock/specs/Stated.antt:1: is in docs/READING.md, and begins as Lemmas";
+    assert_eq!(errors_in(&changed, LIST), [aside]);
 }
 
 #[test]

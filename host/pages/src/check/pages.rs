@@ -8,6 +8,12 @@ use crate::scope::Thing;
 use crate::tree::File;
 use std::collections::BTreeMap;
 
+/// What a page to believe begins with.
+const BELIEVED: [&str; 4] = ["Rule", "Rules", "Statement", "Face"];
+
+/// What any other page begins with.
+const ASIDE: [&str; 2] = ["Lemmas", "Code"];
+
 impl Check<'_> {
     pub(super) fn pages(&mut self) {
         let mut seen = BTreeMap::new();
@@ -74,20 +80,27 @@ impl Check<'_> {
         }
     }
 
-    /// A listed page begins with its rules or as a statement, any other as lemmas or code.
+    /// A listed page begins with its rules, as a statement or as a layout of the C face, any other as lemmas or code.
     pub(super) fn headings(&mut self) {
         let listed = self.listed_paths();
         let files = self.tree.files.iter();
         for file in files.filter(|file| file.module.starts_with("specs.")) {
             let (kind, _) = file.page.heading.split_once(':').unwrap_or_default();
-            let believed = matches!(kind.split(' ').next(), Some("Rule" | "Rules" | "Statement"));
-            let aside = matches!(kind, "Lemmas" | "Code");
+            let first = kind.split(' ').next().unwrap_or("");
+            let believed = BELIEVED.contains(&first);
+            let aside = ASIDE.contains(&kind);
             let what = match (believed, aside, listed.contains(&file.path)) {
                 (false, false, _) => {
-                    "begins with none of: Rule, Rules, Statement, Lemmas, Code".to_string()
+                    format!(
+                        "begins with none of: {}",
+                        [&BELIEVED[..], &ASIDE].concat().join(", ")
+                    )
                 }
                 (true, _, false) => format!("begins as a page to believe, and isn't in {READING}"),
                 (_, true, true) => format!("is in {READING}, and begins as {kind}"),
+                _ if first.starts_with("Rule") && rules::named(kind).is_empty() => {
+                    "begins with rules, and names none".to_string()
+                }
                 _ => continue,
             };
             self.errors.push(format!("{}:1: {what}", file.path));
