@@ -22,8 +22,8 @@ fn main() -> ExitCode {
             print!("{HELP}");
             return ExitCode::SUCCESS;
         }
+        [] => run("check", Path::new(".")),
         [command @ ("check" | "reach" | "rows")] => run(command, Path::new(".")),
-        [] => Err(io::Error::other("no command; see `pages --help`")),
         ["check" | "reach" | "rows", word, ..] | [word, ..] => Err(io::Error::other(format!(
             "can't follow '{word}'; see `pages --help`"
         ))),
