@@ -15,7 +15,7 @@ use Rattle.frame.specs.Layout.{frameOf, opcodeOf, firstOctet, bodyOctets, encod
 use Rattle.frame.specs.Reading.{oneOf}
 use Rattle.frame.specs.declared.Body.{Body}
 use Rattle.frame_range.specs.Fits.{fitsBody, fitsMessage}
-use Rattle.frame_reader.specs.Decode.{registerReqFlagOf, registerFlagOf, registerAckFlagOf}
+use Rattle.frame_reader.specs.Flags.{registerReqFlagOf, registerFlagOf, registerAckFlagOf}
 use Rattle.face_words.specs.Laws.{same-is, same-self, joined-again}
 use Rattle.face_words.specs.Words.{lower}
 use Rattle.face_frame.specs.Laws.{two-tests, four-tests, req-flag-word, flag-word, ack-flag-word, req-flag-is, flag-is, ack-flag-is}

@@ -32,7 +32,8 @@ use Rattle.frame.specs.declared.Reply.the-variants.{Done}
 use Rattle.laws.specs.Cases.{either, decided}
 use Rattle.frame_range.specs.Fits.{fitsMessage}
 use Rattle.frame_range.specs.Laws.{valid-of}
-use Rattle.frame_reader.specs.Decode.{few, registerReqFlagOf, registerFlagOf, registerAckFlagOf, readOf}
+use Rattle.frame_reader.specs.Decode.{readOf}
+use Rattle.frame_reader.specs.Flags.{few, registerReqFlagOf, registerFlagOf, registerAckFlagOf}
 use Rattle.frame_reader.proofs.Back.{carried}
 use Rattle.frame_reader.proofs.Forth.{read-encode}
 use Rattle.frame_reader.proofs.Gate.{listed-few, listed-short}

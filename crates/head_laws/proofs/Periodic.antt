@@ -27,8 +27,7 @@ use Rattle.head_table.specs.Output.{messageOf}
 use Rattle.head_table.specs.declared.Event.{Event}
 use Rattle.head_table.specs.declared.Sender.{Sender}
 use Rattle.head_judging.specs.declared.Call.{Call}
-use Rattle.head_laws.specs.Does.{from}
-use Rattle.head_laws.specs.Frames.{sentBy, linkFrames}
+use Rattle.head_laws.specs.Stated.{sentBy, linkFrames, from}
 use Rattle.head_laws.specs.Numbered.{Has, held-has}
 use Rattle.head_laws.specs.Periodic.{Gates, restarted, GateFires, ticksOn, Comes, GateComes, Among, GateSent}
 use Rattle.head_laws.specs.Refusals.{call-accepted}
