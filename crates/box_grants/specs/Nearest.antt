@@ -1,4 +1,4 @@
--- Rules: what a choice takes, and what it leaves in the list.
+-- Statement: what a choice takes, and what it leaves in the list (R126 to R128).
 -- Assumes nothing.
 use Prim.Native.Nat.{ℕ, _≤_}
 use mathlib.Core.Path.{_≡_}

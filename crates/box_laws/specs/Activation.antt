@@ -31,7 +31,7 @@ use Rattle.box_laws.specs.Sound.{Sound, registered-is, shone, relisted}
 
 module _ (p : Processes) (s : Sound p) where
   -- a box that holds a grant is REGISTERED
-  held-registered : (e : Span) → holds e (listOf (p .list)) ≡ true → isRegistered (p .registration .state) ≡ true
+  pub held-registered : (e : Span) → holds e (listOf (p .list)) ≡ true → isRegistered (p .registration .state) ≡ true
   held-registered e h =
       ⊎-elim (λ (t : isRegistered (p .registration .state) ≡ true). t)
       (λ (t : isRegistered (p .registration .state) ≡ false).

@@ -1,4 +1,4 @@
--- Rules: the periodic GATE goes out at the tick that ends its timer, and restarts it.
+-- Statement: the periodic GATE goes out at the tick that ends its timer, and restarts it (R19, R190).
 -- Assumes nothing.
 use Prim.Native.Nat.{ℕ, zero, suc, _+_, _-_, _<_}
 use mathlib.Core.Path.{_≡_}
