@@ -11,6 +11,7 @@ ghost use Rattle.face_head.specs.Head.{headWords};
 ghost use Rattle.face_head.specs.Table.{wordsAt};
 ghost use Rattle.clock.specs.Timers.{runs};
 ghost use Rattle.head_state.specs.Head.{afterOf};
+ghost use Rattle.frame_range.specs.Fits.{isIndividual};
 ghost use Rattle.face_words.specs.Words.{laid};
 use face_head::LinkWords;
 use face_words::least;
@@ -46,6 +47,12 @@ fn runs(left: u64, most: u64) -> bool
     (1 <= left) & (left <= most)
 }
 
+fn individual(word: u64) -> bool
+    ensures { λ r. ⌜ r ≡ isIndividual (record { 0 = word }) ⌝ }
+{
+    frame_range::individual(Address(word))
+}
+
 fn words_at(links: &[u64], at: usize) -> LinkWords
     requires { ⌜ at + 5 ≤ length (now links) ⌝ }
     ensures { λ r. ⌜ r ≡ wordsAt (drop at (now (links .entry))) ⌝ }
@@ -64,16 +71,13 @@ fn fits(w: LinkWords) -> bool
     ensures { λ r. ⌜ r ≡ fits w ⌝ }
 {
     if w.state == 2 {
-        return frame_range::individual(Address(w.address))
+        return individual(w.address)
             & (w.wait == 0)
             & (w.watchdog <= WATCHDOG)
             & (w.periodic <= PERIODIC);
     }
     if w.state == 1 {
-        return frame_range::individual(Address(w.address))
-            & (w.wait <= WAIT)
-            & (w.watchdog == 0)
-            & (w.periodic == 0);
+        return individual(w.address) & (w.wait <= WAIT) & (w.watchdog == 0) & (w.periodic == 0);
     }
     (w.state == 0) & (w.address == 0) & (w.wait == 0) & (w.watchdog == 0) & (w.periodic == 0)
 }
@@ -114,7 +118,7 @@ fn still(w: LinkWords) -> bool
     ensures { λ r. ⌜ r ≡ still w ⌝ }
 {
     if w.state == 2 {
-        return frame_range::individual(Address(w.address))
+        return individual(w.address)
             & (w.wait == 0)
             & (2 <= w.watchdog)
             & (w.watchdog <= WATCHDOG)
@@ -122,7 +126,7 @@ fn still(w: LinkWords) -> bool
             & (w.periodic <= PERIODIC);
     }
     if w.state == 1 {
-        return frame_range::individual(Address(w.address))
+        return individual(w.address)
             & (2 <= w.wait)
             & (w.wait <= WAIT)
             & (w.watchdog == 0)
@@ -241,9 +245,7 @@ fn head_fits(head: &[u64]) -> bool
     requires { ⌜ 5 ≤ length (now head) ⌝ }
     ensures { λ r. ⌜ r ≡ headFits (now (head .entry)) ⌝ }
 {
-    frame_range::individual(Address(head[0]))
-        & (head[1] <= 0xFFFFFFFF)
-        & window_fits(head[2], head[3], head[4])
+    individual(head[0]) & (head[1] <= 0xFFFFFFFF) & window_fits(head[2], head[3], head[4])
 }
 
 // How many ticks of the links hand out nothing.
