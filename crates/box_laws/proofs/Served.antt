@@ -47,8 +47,8 @@ use Rattle.box_calls.specs.Box.{tickOf}
 use Rattle.box_calls.specs.Send.{remaining}
 use Rattle.box_calls.specs.declared.FloorBox.{FloorBox}
 use Rattle.box_laws.specs.Activation.{held-registered}
-use Rattle.box_laws.specs.Calls.{tick}
-use Rattle.box_laws.specs.Runs.{Run, calls, run-holds, holds-sound}
+use Rattle.box_laws.specs.Stated.{tick, Run, calls}
+use Rattle.box_laws.specs.Runs.{run-holds, holds-sound}
 use Rattle.box_laws.specs.Served.{ticksOn, lightAt, Lights, Waits, Serves, GrantServed}
 use Rattle.box_laws.specs.Sound.{registered-is}
 use Rattle.box_laws.specs.Steady.{tick-ok}

@@ -42,9 +42,10 @@ use Rattle.box_calls.specs.Box.{tickOf}
 use Rattle.box_calls.specs.Hear.{hearOf}
 use Rattle.box_calls.specs.declared.Answer.{Answer}
 use Rattle.box_calls.specs.declared.FloorBox.{FloorBox}
-use Rattle.box_laws.specs.Calls.{Call, hear, tick, step, drift, Outcome, unsound, refuses, accepts, outcome}
+use Rattle.box_laws.specs.Calls.{step, drift, Outcome, unsound, refuses, accepts, outcome}
+use Rattle.box_laws.specs.Stated.{Call, hear, tick, Run, calls}
 use Rattle.box_laws.specs.Gate.{gate-list}
-use Rattle.box_laws.specs.Runs.{Run, calls, run-holds}
+use Rattle.box_laws.specs.Runs.{run-holds}
 use Rattle.box_laws.specs.Sends.{tick-sends}
 use Rattle.box_laws.specs.Served.{ticksOn, Waits, Serves, GrantServed}
 use Rattle.box_laws.specs.Sound.{count-keeps}

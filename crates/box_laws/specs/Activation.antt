@@ -1,4 +1,4 @@
--- Activation keeps the processes sound.
+-- Lemmas: activation keeps the processes sound.
 -- Assumes nothing.
 use Prim.Native.Nat.{_^_, _<_}
 use mathlib.Core.Path.{_≡_}

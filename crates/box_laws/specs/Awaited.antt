@@ -1,4 +1,4 @@
--- A discovery window is on its way only in REGISTERING: every step keeps that, and then no tick is answered 14.
+-- Lemmas: a discovery window is on its way only in REGISTERING: every step keeps that, and then no tick is answered 14.
 -- Assumes nothing.
 use Prim.Native.Nat.{ℕ}
 use mathlib.Core.Path.{_≡_, refl, sym, _∙_}

@@ -1,4 +1,4 @@
--- Document 01, "Normal GATE": the list after it is the list before it and, behind that, the grants taken.
+-- Lemmas: R123: the list after a normal GATE is the list before it and, behind that, the grants taken.
 -- Assumes nothing.
 use Prim.Native.Nat.{ℕ, _+_, _≤_}
 use mathlib.Core.Path.{_≡_, refl, sym, _∙_}

@@ -17,7 +17,7 @@ use Rattle.box_light.specs.declared.Light.the-variants.{Rest, Due, Lit}
 use Rattle.box_calls.specs.Box.{tickOf}
 use Rattle.box_calls.specs.Send.{remaining}
 use Rattle.box_calls.specs.declared.FloorBox.{FloorBox}
-use Rattle.box_laws.specs.Runs.{Run}
+use Rattle.box_laws.specs.Stated.{Run}
 
 -- k ticks of a box, one after the other
 abbrev pub ticksOn : ℕ → FloorBox → FloorBox

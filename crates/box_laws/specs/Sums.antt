@@ -15,7 +15,7 @@ use Rattle.box_light.specs.declared.Light.the-variants.{Rest, Lit}
 use Rattle.box_registration.specs.declared.State.the-variants.{Registered}
 use Rattle.box_calls.specs.Hear.{hearOf}
 use Rattle.box_calls.specs.declared.FloorBox.{FloorBox}
-use Rattle.box_laws.specs.Runs.{Run}
+use Rattle.box_laws.specs.Stated.{Run}
 use Rattle.box_laws.specs.Served.{lightAt, Lights}
 
 -- a box that a run reaches, REGISTERED with sync 10, at rest and without a grant, accepts a GATE stamped 1000

@@ -22,8 +22,9 @@ use Rattle.box_calls.specs.Box.{soundOf}
 use Rattle.box_calls.specs.Send.{fitsIn, sendOf}
 use Rattle.box_calls.specs.declared.Answer.{Answer}
 use Rattle.box_calls.specs.declared.FloorBox.{FloorBox}
-use Rattle.box_laws.specs.Calls as core
-use Rattle.box_laws.specs.Calls.{Call, answer, Outcome, unsound, refuses, accepts, outcome, Unchanged, refused-unchanged}
+use Rattle.box_laws.specs.Stated as core
+use Rattle.box_laws.specs.Calls.{Outcome, unsound, refuses, accepts, outcome, refused-unchanged}
+use Rattle.box_laws.specs.Stated.{Call, answer, Unchanged}
 use Rattle.face_words.specs.Laws.{same-is}
 use Rattle.face_words.specs.Words.{same}
 use Rattle.face_box.specs.Box.{entryOf, discoveryOf, lightOf, frontWords, frontOf, boxWords, boxOf, isClear, hasWords, isBox, nobody, boxIn}

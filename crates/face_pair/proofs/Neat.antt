@@ -54,7 +54,8 @@ use Rattle.box_hearing.specs.Register.{registerOf}
 use Rattle.box_calls.specs.Answer.{accepted}
 use Rattle.box_calls.specs.declared.Answer.{Answer}
 use Rattle.box_calls.specs.declared.FloorBox.{FloorBox}
-use Rattle.box_laws.specs.Calls.{Call, register, deregister, hear, tick, answer, step, Outcome, unsound, refuses, accepts, outcome}
+use Rattle.box_laws.specs.Calls.{step, Outcome, unsound, refuses, accepts, outcome}
+use Rattle.box_laws.specs.Stated.{Call, register, deregister, hear, tick, answer}
 use Rattle.box_laws.specs.Frames.{CallTyped}
 use Rattle.pair_box.proofs.Activated.{activate-leaves}
 
