@@ -5,7 +5,7 @@ mod types;
 
 use crate::graph::{Graph, Node};
 use crate::reach::{item, Reach};
-use crate::reading::{Reading, READING};
+use crate::reading::{Reading, FIRST, READING};
 use crate::scope::Thing;
 use crate::sum::Sum;
 use crate::tree::Tree;
@@ -43,7 +43,7 @@ pub fn check(
     check.pages();
     check.headings();
     check.types();
-    check.sum();
+    check.sums();
     check.errors
 }
 
@@ -115,12 +115,18 @@ impl Check<'_> {
         pages.map(|page| page.file.path.clone()).collect()
     }
 
-    fn sum(&mut self) {
-        let sum = Sum::of(self.tree, self.reach);
-        match &self.reading.sum {
+    fn sums(&mut self) {
+        let (tree, reading) = (self.tree, self.reading);
+        self.sum(&reading.sum, "In all: ", &Sum::of(tree, self.reach));
+        let first = Reach::of(tree, self.graph, &reading.with_first());
+        self.sum(&reading.first, FIRST, &Sum::of(tree, &first));
+    }
+
+    fn sum(&mut self, said: &Option<(usize, Vec<usize>)>, begin: &str, sum: &Sum) {
+        match said {
             Some((_, numbers)) if *numbers == [sum.lines, sum.pages, sum.types] => {}
-            Some((line, _)) => self.listed(*line, format!("should be: {sum}")),
-            None => self.listed(1, format!("has no line: {sum}")),
+            Some((line, _)) => self.listed(*line, format!("should be: {begin}{sum}")),
+            None => self.listed(1, format!("has no line: {begin}{sum}")),
         }
     }
 }

@@ -67,7 +67,7 @@ fn checked(
         eprintln!("{error}");
     }
     if errors.is_empty() {
-        println!("pages: {} rules. {}", rules.len(), Sum::of(tree, reach));
+        println!("pages: {} rules; {}", rules.len(), Sum::of(tree, reach));
         return Ok(ExitCode::SUCCESS);
     }
     eprintln!("pages: {} faults", errors.len());

@@ -55,7 +55,12 @@ pub struct Reading {
     pub types: Vec<Listed>,
     /// The numbers of the line `In all: ..`, and where it stands.
     pub sum: Option<(usize, Vec<usize>)>,
+    /// Those of what the promises and the first statement reach by themselves.
+    pub first: Option<(usize, Vec<usize>)>,
 }
+
+/// How the line of the first statement begins.
+pub const FIRST: &str = "The promises and the first statement alone: ";
 
 impl Reading {
     /// Reads the document.
@@ -64,9 +69,15 @@ impl Reading {
         for row in rows(text) {
             reading.add(&row);
         }
-        let mut lines = text.lines().enumerate();
-        let sum = lines.find_map(|(at, line)| Some((at + 1, line.strip_prefix("In all: ")?)));
-        reading.sum = sum.map(|(line, text)| (line, text.split(' ').filter_map(number).collect()));
+        reading.sum = numbers_behind(text, "In all: ");
+        reading.first = numbers_behind(text, FIRST);
+        reading
+    }
+
+    /// The list with its first statement alone.
+    pub fn with_first(&self) -> Reading {
+        let mut reading = self.clone();
+        reading.statements.truncate(1);
         reading
     }
 
@@ -109,6 +120,13 @@ fn beside(path: String, row: &Row) -> Named {
         path,
         names: last.map(|(_, names)| quoted(names)).unwrap_or_default(),
     }
+}
+
+/// The numbers of the line that begins so, and where it stands.
+fn numbers_behind(text: &str, begin: &str) -> Option<(usize, Vec<usize>)> {
+    let mut lines = text.lines().enumerate();
+    let (at, rest) = lines.find_map(|(at, line)| Some((at, line.strip_prefix(begin)?)))?;
+    Some((at + 1, rest.split(' ').filter_map(number).collect()))
 }
 
 #[cfg(test)]

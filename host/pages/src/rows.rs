@@ -9,7 +9,7 @@ use std::collections::BTreeSet;
 
 /// A table for each family of crates, one of the types, and the line with their sums.
 pub fn rows(tree: &Tree, reach: &Reach) -> String {
-    let mut lines = vec![Sum::of(tree, reach).to_string()];
+    let mut lines = vec![format!("In all: {}", Sum::of(tree, reach))];
     let believed = believed(reach);
     for (title, members) in &tree.families {
         let pages: Vec<String> = members

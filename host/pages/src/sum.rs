@@ -43,7 +43,7 @@ impl fmt::Display for Sum {
         let (lines, pages, types) = (self.lines, self.pages, self.types);
         write!(
             out,
-            "In all: {lines} lines of definitions on {pages} pages, and {types} lines of types."
+            "{lines} lines of definitions on {pages} pages, and {types} lines of types."
         )
     }
 }
