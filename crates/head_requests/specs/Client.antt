@@ -4,7 +4,7 @@ use Prim.Native.Nat.{ℕ}
 use mathlib.Core.Bool.{Bool, false, not, _&&_}
 use mathlib.Core.List.{[], _∷_}
 use lib.Dec.{eqb, leb}
-use Rattle.clock.specs.Numbers.{startInRange, serves, fits}
+use Rattle.clock.specs.Numbers.{startInRange, fits, serves}
 use Rattle.clock.specs.declared.Count.{Count}
 use Rattle.clock.specs.declared.Quanta.{Quanta}
 use Rattle.frame.specs.Card.{_unless_, given}
@@ -17,7 +17,7 @@ use Rattle.frame_range.specs.Fits.{isIndividual}
 use Rattle.head_gating.specs.Asked.{grantsOf, fits as fitsAsked}
 use Rattle.head_gating.specs.declared.Asked.{Asked}
 use Rattle.head_state.specs.Head.{withWindow}
-use Rattle.head_state.specs.Window.{fits, isIdle, opened}
+use Rattle.head_state.specs.Window.{fits as fitsWindow, isIdle, opened}
 use Rattle.head_state.specs.declared.Head.{Head}
 use Rattle.head_links.specs.Link.{isHeld, isRegistered}
 use Rattle.head_links.specs.declared.Change.{Change}
@@ -33,7 +33,7 @@ fitsLengths length sync = fits length && fits sync
 
 -- R158
 unfoldable pub mayOpen : Count → Count → Quanta → Quanta → Quanta → Bool
-mayOpen now start length sync window = startInRange (now .0) (start .0) && serves (sync .0) (length .0) && fits window
+mayOpen now start length sync window = startInRange (now .0) (start .0) && serves (sync .0) (length .0) && fitsWindow window
 
 -- R156 to R160
 unfoldable pub openOf : Head → Count → Quanta → Quanta → Quanta → Plan

@@ -31,4 +31,4 @@ returns-3 c = rw (c .start .ensures, c .before .before .before .before .way .giv
 
 pub call-spec : {M : Type 1} → statement M
 call-spec =
-    tie.close (tie.spec enum-told enum-known-way randomly-requires stopped-requires start-requires returns returns-2 returns-3)
+    tie.close (tie.spec enum-told enum-known-way randomly-requires returns stopped-requires start-requires returns-2 returns-3)
