@@ -7,11 +7,11 @@ use Rattle.clock.specs.Numbers.{needed}
 use Rattle.clock.specs.declared.Quanta.{Quanta}
 use Rattle.clock.specs.declared.Reach.{Reach}
 use Rattle.clock.specs.declared.Reach.the-variants.{Past, Ahead}
+use Rattle.clock.specs.declared.Span.{Span}
 use Rattle.box_grants.specs.Activation.{remove}
 use Rattle.box_grants.specs.Listed.{listOf, packed, chooseOf}
 use Rattle.box_grants.specs.declared.Chosen.{Chosen}
 use Rattle.box_grants.specs.declared.Chosen.the-variants.{Nothing, Due}
-use Rattle.box_grants.specs.declared.Entry.{Entry}
 use Rattle.box_light.specs.Light.{laserOnFor, atRest}
 use Rattle.box_light.specs.declared.Light.{Light}
 use Rattle.box_registration.specs.Registration.{isRegistered}
@@ -19,14 +19,14 @@ use Rattle.box_processes.specs.Parts.{withList, withLight}
 use Rattle.box_processes.specs.declared.Processes.{Processes}
 
 -- R132
-unfoldable pub lightUp : Processes → Entry → Quanta → Processes
+unfoldable pub lightUp : Processes → Span → Quanta → Processes
 lightUp p e sync = withLight (withList p (packed (remove e (listOf (p .list))))) (Light.Lit (laserOnFor sync) (e .length) sync)
 
 -- R129
-unfoldable pub begin : Processes → Entry → Quanta → Quanta → Processes
+unfoldable pub begin : Processes → Span → Quanta → Quanta → Processes
 begin p e sync wait = cond (eqb (wait .0) 0) (lightUp p e sync) (withLight p (Light.Due (record { left = wait .0 }) e sync))
 
-abbrev pub headFor : Processes → Entry → Quanta → Reach → Processes
+abbrev pub headFor : Processes → Span → Quanta → Reach → Processes
 headFor p e sync Past = p
 headFor p e sync (Ahead wait) = begin p e sync wait
 

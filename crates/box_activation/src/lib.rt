@@ -2,15 +2,15 @@
 ghost use mathlib.Core.Path.{_≡_};
 ghost use Rattle.box_activation.specs.Activation.{lightUp, begin, headFor, serve, activate};
 use box_grants::Chosen;
-use box_grants::Entry;
 use box_light::Light;
 use box_processes::Processes;
 use clock::Quanta;
 use clock::Reach;
+use clock::Span;
 use clock::Timer;
 
 // The laser goes on for a grant, which is removed from the list.
-pub fn light_up(p: Processes, entry: Entry, sync: Quanta) -> Processes
+pub fn light_up(p: Processes, entry: Span, sync: Quanta) -> Processes
     ensures { λ r. ⌜ r ≡ lightUp p entry sync ⌝ }
 {
     let list = p.list;
@@ -26,7 +26,7 @@ pub fn light_up(p: Processes, entry: Entry, sync: Quanta) -> Processes
 }
 
 // The wait for a grant begins; a wait of 0 is passed.
-fn begin(p: Processes, entry: Entry, sync: Quanta, wait: Quanta) -> Processes
+fn begin(p: Processes, entry: Span, sync: Quanta, wait: Quanta) -> Processes
     ensures { λ r. ⌜ r ≡ begin p entry sync wait ⌝ }
 {
     let n = wait.0;
@@ -38,7 +38,7 @@ fn begin(p: Processes, entry: Entry, sync: Quanta, wait: Quanta) -> Processes
     p.with_light(due)
 }
 
-fn head_for(p: Processes, entry: Entry, sync: Quanta, way: Reach) -> Processes
+fn head_for(p: Processes, entry: Span, sync: Quanta, way: Reach) -> Processes
     ensures { λ r. ⌜ r ≡ headFor p entry sync way ⌝ }
 {
     match way {

@@ -9,6 +9,8 @@ use Rattle.box_calls.proofs.FloorBox.fresh.Kinds as fresh-kinds
 use Rattle.box_calls.proofs.FloorBox.fresh.Reads as fresh
 use Rattle.box_calls.proofs.FloorBox.sound.Kinds as sound-kinds
 use Rattle.box_calls.proofs.FloorBox.sound.Reads as sound
+use Rattle.box_calls.proofs.FloorBox.refused.Kinds as refused-kinds
+use Rattle.box_calls.proofs.FloorBox.refused.Reads as refused
 use Rattle.box_calls.proofs.FloorBox.register.Kinds as register-kinds
 use Rattle.box_calls.proofs.FloorBox.register.Reads as register
 use Rattle.box_calls.proofs.FloorBox.deregister.Kinds as deregister-kinds
@@ -27,6 +29,9 @@ fresh-settles κs a e x y p q = p ∙ sym q
 
 pub sound-settles : Settles 0 sound-kinds.ps sound-kinds.r sound.Post
 sound-settles κs a e x y p q = p ∙ sym q
+
+pub refused-settles : Settles 0 refused-kinds.ps refused-kinds.r refused.Post
+refused-settles κs a e x y p q = p ∙ sym q
 
 pub register-settles : Settles 0 register-kinds.ps register-kinds.r register.Post
 register-settles κs a e x y p q = p ∙ sym q

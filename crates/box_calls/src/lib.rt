@@ -136,7 +136,7 @@ impl FloorBox {
     }
 
     // A refusal changes nothing.
-    fn refused(self, reply: Reply) -> Answer
+    pub fn refused(self, reply: Reply) -> Answer
         ensures { λ r. ⌜ r ≡ refused self reply ⌝ }
     {
         self.bare(reply)

@@ -13,14 +13,15 @@ use lib.ListN.{length}
 use lib.Signed.{ltZ}
 use Rattle.laws.specs.Cases.{either, decided}
 use Rattle.clock.specs.Counts.{distance, isPast, nearer}
-use Rattle.box_grants.specs.Activation.{same, holds, ahead, nearest, remove, Left, settle}
+use Rattle.clock.specs.Spans.{same}
+use Rattle.box_grants.specs.Activation.{holds, ahead, nearest, remove, Left, settle}
 use Rattle.box_grants.specs.Nearest.{Nearest, EveryChoice}
 use Rattle.box_grants.specs.Keeps.{same-is, held-ahead, settle-holds, settle-shorter, listed-room}
 use Rattle.box_grants.specs.Laws.{packed-list, ahead-shorter, nearest-in, remove-fewer}
 use Rattle.box_grants.specs.Listed.{listOf, chooseOf}
 use Rattle.box_grants.specs.declared.Chosen.{Chosen}
 use Rattle.box_grants.specs.declared.Chosen.the-variants.{Nothing, Due}
-use Rattle.box_grants.specs.declared.Entry.{Entry}
+use Rattle.clock.specs.declared.Span.{Span}
 use Rattle.box_grants.specs.declared.GrantList.{GrantList}
 
 -- THE ORDER OF DISTANCES
@@ -54,19 +55,19 @@ same-not (pos a) = le-ltb a a (omega arith)
 same-not (negsuc a) = le-ltb a a (omega arith)
 
 -- WHAT HOLDS OF EACH GRANT OF A LIST
-abbrev All : (Entry → Type 0) → List Entry → Type 0
+abbrev All : (Span → Type 0) → List Span → Type 0
 All P [] = Unit {0}
 All P (x ∷ l) = P x × All P l
 
-all-append : (P : Entry → Type 0) (l k : List Entry) → All P l → All P k → All P (l ++ k)
+all-append : (P : Span → Type 0) (l k : List Span) → All P l → All P k → All P (l ++ k)
 all-append P [] k a b = b
 all-append P (x ∷ l) k a b = (a .0, all-append P l k (a .1) b)
 
-all-on : (P Q : Entry → Type 0) (l : List Entry) → ((x : Entry) → P x → Q x) → All P l → All Q l
+all-on : (P Q : Span → Type 0) (l : List Span) → ((x : Span) → P x → Q x) → All P l → All Q l
 all-on P Q [] f a = tt
 all-on P Q (x ∷ l) f a = (f x (a .0), all-on P Q l f (a .1))
 
-all-held : (P : Entry → Type 0) (x : Entry) (l : List Entry) → All P l → holds x l ≡ true → P x
+all-held : (P : Span → Type 0) (x : Span) (l : List Span) → All P l → holds x l ≡ true → P x
 all-held P x [] a h = absurd (false≢true h)
 all-held P x (y ∷ l) a h =
     ⊎-elim
@@ -76,33 +77,33 @@ all-held P x (y ∷ l) a h =
 
 -- THE NEAREST
 module _ (now : ℕ) where
-  abbrev Further : Entry → Entry → Type 0
+  abbrev Further : Span → Span → Type 0
   Further e x = nearer now (e .start .0) (x .start .0) ≡ true
 
-  abbrev NoNearer : Entry → Entry → Type 0
+  abbrev NoNearer : Span → Span → Type 0
   NoNearer e x = nearer now (x .start .0) (e .start .0) ≡ false
 
-  record Parts (l : List Entry) (e : Entry) : Type 0 where
-    before : List Entry
-    after : List Entry
+  record Parts (l : List Span) (e : Span) : Type 0 where
+    before : List Span
+    after : List Span
     stands : l ≡ before ++ (e ∷ after)
     further : All (Further e) before
     no-nearer : All (NoNearer e) after
 
-  further-not : (e x : Entry) → Further e x → NoNearer e x
+  further-not : (e x : Span) → Further e x → NoNearer e x
   unfolding nearer
   further-not e x h = ahead-of (distance now (e .start .0)) (distance now (x .start .0)) h
 
-  nearer-further : (e y x : Entry) → Further y e → NoNearer e x → Further y x
+  nearer-further : (e y x : Span) → Further y e → NoNearer e x → Further y x
   unfolding nearer
   nearer-further e y x h k = below (distance now (y .start .0)) (distance now (e .start .0)) (distance now (x .start .0)) h k
 
-  self-not : (e : Entry) → NoNearer e e
+  self-not : (e : Span) → NoNearer e e
   unfolding nearer
   self-not e = same-not (distance now (e .start .0))
 
   -- one grant more
-  parts-more : (l : List Entry) (e x : Entry) → Parts l e → Parts (l ++ (x ∷ [])) (cond (nearer now (x .start .0) (e .start .0)) x e)
+  parts-more : (l : List Span) (e x : Span) → Parts l e → Parts (l ++ (x ∷ [])) (cond (nearer now (x .start .0) (e .start .0)) x e)
   parts-more l e x p =
       either (Parts (l ++ (x ∷ []))) (nearer now (x .start .0) (e .start .0)) x e
       (λ t.
@@ -124,15 +125,15 @@ module _ (now : ℕ) where
         no-nearer = all-append (NoNearer e) (p .after) (x ∷ []) (p .no-nearer) (t, tt);
       })
 
-  parts-walk : (k l : List Entry) (e : Entry) → Parts l e → Parts (l ++ k) (nearest now e k)
+  parts-walk : (k l : List Span) (e : Span) → Parts l e → Parts (l ++ k) (nearest now e k)
   parts-walk [] l e p = rw (append-nil l) p
   parts-walk (x ∷ k) l e p =
       rw (← append-assoc l (x ∷ []) k) (parts-walk k (l ++ (x ∷ [])) (cond (nearer now (x .start .0) (e .start .0)) x e) (parts-more l e x p))
 
-  nearest-parts : (e : Entry) (l : List Entry) → Parts (e ∷ l) (nearest now e l)
+  nearest-parts : (e : Span) (l : List Span) → Parts (e ∷ l) (nearest now e l)
   nearest-parts e l = parts-walk l (e ∷ []) e (record { before = []; after = []; stands = refl; further = tt; no-nearer = tt })
 
-  nearest-is : (l : List Entry) (e : Entry) → Parts l e → Nearest now l e
+  nearest-is : (l : List Span) (e : Span) → Parts l e → Nearest now l e
   nearest-is l e p =
       record {
         before = p .before;
@@ -143,7 +144,7 @@ module _ (now : ℕ) where
       }
 
 -- THE CHOICE
-ahead-held : (now : ℕ) (x : Entry) (l : List Entry) → isPast now (x .start .0) ≡ false → holds x l ≡ true → holds x (ahead now l) ≡ true
+ahead-held : (now : ℕ) (x : Span) (l : List Span) → isPast now (x .start .0) ≡ false → holds x l ≡ true → holds x (ahead now l) ≡ true
 ahead-held now x [] a h = h
 ahead-held now x (y ∷ l) a h =
     ⊎-elim
@@ -152,26 +153,26 @@ ahead-held now x (y ∷ l) a h =
     rw (e, s))
     (λ (s : same x y ≡ false).
     let k = ahead-held now x l a (rw s at h) in
-    either (λ (r : List Entry). holds x r ≡ true) (isPast now (y .start .0)) _ _ (λ _. k) (λ _. rw (s, k)))
+    either (λ (r : List Span). holds x r ≡ true) (isPast now (y .start .0)) _ _ (λ _. k) (λ _. rw (s, k)))
     (decided (same x y))
 
-others-held : (x n : Entry) (l : List Entry) → x ≢ n → holds x l ≡ true → holds x (remove n l) ≡ true
+others-held : (x n : Span) (l : List Span) → x ≢ n → holds x l ≡ true → holds x (remove n l) ≡ true
 others-held x n [] d h = h
 others-held x n (y ∷ l) d h =
     ⊎-elim
     (λ (s : same x y ≡ true).
-    either (λ (r : List Entry). holds x r ≡ true) (same n y) _ _ (λ t. absurd (d (same-is x y s ∙ sym (same-is n y t)))) (λ _. rw s))
+    either (λ (r : List Span). holds x r ≡ true) (same n y) _ _ (λ t. absurd (d (same-is x y s ∙ sym (same-is n y t)))) (λ _. rw s))
     (λ (s : same x y ≡ false).
     let k : holds x l ≡ true = rw s at h in
-    either (λ (r : List Entry). holds x r ≡ true) (same n y) _ _ (λ _. k) (λ _. rw (s, others-held x n l d k)))
+    either (λ (r : List Span). holds x r ≡ true) (same n y) _ _ (λ _. k) (λ _. rw (s, others-held x n l d k)))
     (decided (same x y))
 
 module _ (now need : ℕ) where
-  abbrev First : List Entry → Chosen → Type 0
+  abbrev First : List Span → Chosen → Type 0
   First l Nothing = Unit {0}
   First l (Due e) = Parts now l e
 
-  settle-first : (k : ℕ) (l : List Entry) → First (settle k now need l .list) (settle k now need l .chosen)
+  settle-first : (k : ℕ) (l : List Span) → First (settle k now need l .list) (settle k now need l .chosen)
   unfolding settle
   settle-first zero l = tt
   settle-first (suc k) [] = tt
@@ -189,7 +190,7 @@ module _ (now need : ℕ) where
   abbrev Emptied : Left → Type 0
   Emptied c = (c .chosen ≡ Nothing → c .list ≡ []) × (c .list ≡ [] → c .chosen ≡ Nothing)
 
-  settle-emptied : (k : ℕ) (l : List Entry) → length l ≤ k → Emptied (settle k now need l)
+  settle-emptied : (k : ℕ) (l : List Span) → length l ≤ k → Emptied (settle k now need l)
   unfolding settle
   settle-emptied zero [] h = (λ _. refl, λ _. refl)
   settle-emptied zero (x ∷ l) h = absurd (omega arith)
@@ -201,7 +202,7 @@ module _ (now need : ℕ) where
       (λ _. (λ e. absurd (true≢false (ap isDue e)), λ e. absurd (cons≢nil e)))
       (λ _. settle-emptied k (remove n (x ∷ l)) (omega arith))
 
-  settle-kept : (x : Entry) → need ≤ x .length .0 → (k : ℕ) (l : List Entry) → holds x l ≡ true → holds x (settle k now need l .list) ≡ true
+  settle-kept : (x : Span) → need ≤ x .length .0 → (k : ℕ) (l : List Span) → holds x l ≡ true → holds x (settle k now need l .list) ≡ true
   unfolding settle
   settle-kept x f zero l h = h
   settle-kept x f (suc k) [] h = h
@@ -211,11 +212,11 @@ module _ (now need : ℕ) where
       (λ _. h)
       (λ t.
       let short = leb-false need (n .length .0) t in
-      let other : x ≢ n = λ (e : x ≡ n). absurd (omega (arith, ap (λ (y : Entry). y .length .0) e)) in
+      let other : x ≢ n = λ (e : x ≡ n). absurd (omega (arith, ap (λ (y : Span). y .length .0) e)) in
       settle-kept x f k (remove n (y ∷ l)) (others-held x n (y ∷ l) other h))
 
 module _ (now need : ℕ) (s : GrantList) where
-  abbrev some : List Entry
+  abbrev some : List Span
   some = ahead now (listOf s)
 
   abbrev choose : Left

@@ -3,4 +3,5 @@ pub mod Keeps
 pub mod Laws
 pub mod Listed
 pub mod Nearest
+pub mod Sifting
 pub mod Sound

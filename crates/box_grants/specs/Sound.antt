@@ -4,12 +4,12 @@ use mathlib.Core.Bool.{Bool, true, _&&_}
 use mathlib.Core.List.{List, [], _∷_}
 use lib.Dec.{leb}
 use Rattle.clock.specs.Numbers.{fits}
+use Rattle.clock.specs.declared.Span.{Span}
 use Rattle.box_grants.specs.Activation.{room}
 use Rattle.box_grants.specs.Listed.{listOf}
-use Rattle.box_grants.specs.declared.Entry.{Entry}
 use Rattle.box_grants.specs.declared.GrantList.{GrantList}
 
-abbrev pub inRange : List Entry → Bool
+abbrev pub inRange : List Span → Bool
 inRange [] = true
 inRange (e ∷ l) = fits (e .length) && inRange l
 

@@ -3,27 +3,23 @@ ghost use mathlib.Core.Path.{_≡_};
 ghost use mathlib.Core.List.{[]};
 ghost use Prim.Native.Nat.{min};
 ghost use lib.ListN.{getD};
-ghost use Rattle.box_grants.specs.Activation.{room, same, holds, ahead, nearest, remove};
-ghost use Rattle.box_grants.specs.Listed.{none, listOf, packed, pushed, kept, sifted, nearerOf, chooseOf};
+ghost use Rattle.clock.specs.Spans.{none};
+ghost use Rattle.box_grants.specs.Activation.{room, holds, ahead, nearest, remove};
+ghost use Rattle.box_grants.specs.Listed.{listOf, packed, pushed, chooseOf};
+ghost use Rattle.box_grants.specs.Sifting.{kept, sifted};
 ghost use Rattle.box_grants.specs.Sound.{soundOf};
 use clock::Count;
-use clock::Quanta;
-
-// What the list keeps of a grant.
-pub struct Entry {
-    pub start: Count,
-    pub length: Quanta,
-}
+use clock::Span;
 
 pub struct GrantList {
-    pub entries: [Entry; 16],
+    pub entries: [Span; 16],
     pub number: usize,
 }
 
 // The grant to wait for, if there is one.
 pub enum Chosen {
     Nothing,
-    Due(Entry),
+    Due(Span),
 }
 
 pub struct Choice {
@@ -37,40 +33,8 @@ struct Sieve {
     met: bool,
 }
 
-impl Entry {
-    fn none() -> Entry
-        ensures { λ r. ⌜ r ≡ none ⌝ }
-    {
-        Entry {
-            start: Count(0),
-            length: Quanta(0),
-        }
-    }
-
-    // Start and length both match.
-    fn same(self, other: Entry) -> bool
-        ensures { λ r. ⌜ r ≡ same self other ⌝ }
-    {
-        let a = self.start;
-        let b = other.start;
-        let m = self.length;
-        let n = other.length;
-        (a.0 == b.0) & (m.0 == n.0)
-    }
-
-    // The nearer of two, and of two that are as near this one.
-    fn nearer(self, now: Count, other: Entry) -> Entry
-        ensures { λ r. ⌜ r ≡ nearerOf (now .0) self other ⌝ }
-    {
-        if now.nearer(other.start, self.start) {
-            return other;
-        }
-        self
-    }
-}
-
 impl Sieve {
-    fn sift(self, out: Entry, e: Entry) -> Sieve
+    fn sift(self, out: Span, e: Span) -> Sieve
         ensures { λ r. ⌜ r ≡ sifted out self e ⌝ }
     {
         let list = self.list;
@@ -99,7 +63,7 @@ impl GrantList {
     pub fn empty() -> GrantList
         ensures { λ r. ⌜ r ≡ packed [] ⌝ }
     {
-        let none = Entry::none();
+        let none = Span::none();
         let entries = [none; 16];
         GrantList { entries, number: 0 }
     }
@@ -116,7 +80,7 @@ impl GrantList {
     }
 
     // One entry more, at the end, if there is room.
-    pub fn push(self, e: Entry) -> GrantList
+    pub fn push(self, e: Span) -> GrantList
         ensures { λ r. ⌜ r ≡ pushed self e ⌝ }
     {
         let n = self.number;
@@ -131,7 +95,7 @@ impl GrantList {
         self
     }
 
-    pub fn holds(self, e: Entry) -> bool
+    pub fn holds(self, e: Span) -> bool
         ensures { λ r. ⌜ r ≡ holds e (listOf self) ⌝ }
     {
         let entries = self.entries;
@@ -164,7 +128,7 @@ impl GrantList {
     }
 
     // One entry more, unless its start is past.
-    fn keep(self, now: Count, e: Entry) -> GrantList
+    fn keep(self, now: Count, e: Span) -> GrantList
         ensures { λ r. ⌜ r ≡ kept (now .0) self e ⌝ }
     {
         if now.is_past(e.start) {
@@ -190,7 +154,7 @@ impl GrantList {
     }
 
     // The smallest distance, earliest arrival first.
-    fn nearest(self, now: Count) -> Entry
+    fn nearest(self, now: Count) -> Span
         ensures { λ r. ⌜ r ≡ nearest (now .0) (getD (self .entries) 0 none) (listOf self) ⌝ }
     {
         let entries = self.entries;
@@ -206,7 +170,7 @@ impl GrantList {
     }
 
     // The list without the earliest that is equal to `out`.
-    pub fn without(self, out: Entry) -> GrantList
+    pub fn without(self, out: Span) -> GrantList
         ensures { λ r. ⌜ r ≡ packed (remove out (listOf self)) ⌝ }
     {
         let entries = self.entries;

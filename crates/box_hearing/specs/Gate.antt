@@ -5,10 +5,10 @@ use mathlib.Core.Bool.{true, cond, _&&_}
 use mathlib.Core.List.{List, foldl}
 use lib.Dec.{ltb}
 use Rattle.clock.specs.Numbers.{startInRange}
+use Rattle.clock.specs.declared.Span.{Span}
 use Rattle.frame.specs.declared.Grant.{Grant}
 use Rattle.box_grants.specs.Activation.{room}
 use Rattle.box_grants.specs.Listed.{pushed}
-use Rattle.box_grants.specs.declared.Entry.{Entry}
 use Rattle.box_registration.specs.Registration.{isRegistered, heard}
 use Rattle.box_telling.specs.Told.{noNotices, added}
 use Rattle.box_telling.specs.declared.Notice.{Notice}
@@ -19,7 +19,7 @@ use Rattle.box_processes.specs.declared.Step.{Step}
 use Rattle.box_hearing.specs.declared.Taking.{Taking}
 
 -- R124
-abbrev pub entryOf : Grant → Entry
+abbrev pub entryOf : Grant → Span
 entryOf g = record { start = g .start; length = g .length }
 
 -- R123

@@ -10,10 +10,10 @@ use lib.Dec.{ltb}
 use lib.ListN.{length, length-append}
 use Rattle.laws.specs.Cases.{decided}
 use Rattle.clock.specs.Numbers.{startInRange}
+use Rattle.clock.specs.declared.Span.{Span}
 use Rattle.frame.specs.declared.Grant.{Grant}
 use Rattle.box_grants.specs.Activation.{room}
 use Rattle.box_grants.specs.Listed.{pushed}
-use Rattle.box_grants.specs.declared.Entry.{Entry}
 use Rattle.box_grants.specs.declared.GrantList.{GrantList}
 use Rattle.box_telling.specs.Told.{noNotices, added}
 use Rattle.box_telling.specs.declared.Notice.{Notice}
@@ -49,7 +49,7 @@ slots-added (a ∷ b ∷ []) g h = refl
 slots-added (a ∷ b ∷ c ∷ []) g h = refl
 slots-added (a ∷ b ∷ c ∷ d ∷ l) g h = absurd (omega arith)
 
-pub pushed-number : (s : GrantList) (e : Entry) → ltb (s .number) 16 ≡ true → pushed s e .number ≡ s .number + 1
+pub pushed-number : (s : GrantList) (e : Span) → ltb (s .number) 16 ≡ true → pushed s e .number ≡ s .number + 1
 unfolding pushed
 pushed-number s e h = rw h
 

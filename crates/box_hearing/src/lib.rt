@@ -6,7 +6,6 @@ ghost use Rattle.box_hearing.specs.Discovery.{randomFor, called, discove
 ghost use Rattle.box_hearing.specs.Gate.{taken, gated};
 ghost use Rattle.box_hearing.specs.Hear.{hearOf};
 ghost use Rattle.box_hearing.specs.Register.{admitted, rejected, asked, held, registerOf};
-use box_grants::Entry;
 use box_grants::GrantList;
 use box_light::Light;
 use box_processes::Processes;
@@ -18,6 +17,7 @@ use box_telling::Sent;
 use clock::Count;
 use clock::Quanta;
 use clock::Reach;
+use clock::Span;
 use clock::Timer;
 use frame::Body;
 use frame::Grant;
@@ -41,7 +41,7 @@ impl Taking {
         if now.start_in_range(start) & (list.number < GrantList::ROOM) {
             let notices = self.notices;
             let length = grant.length;
-            let entry = Entry { start, length };
+            let entry = Span { start, length };
             return Taking {
                 list: list.push(entry),
                 notices: notices.and(Notice::Granted(grant)),

@@ -9,10 +9,10 @@ use Rattle.clock.specs.Numbers.{needed}
 use Rattle.clock.specs.declared.Quanta.{Quanta}
 use Rattle.clock.specs.declared.Reach.{Reach}
 use Rattle.clock.specs.declared.Reach.the-variants.{Past, Ahead}
+use Rattle.clock.specs.declared.Span.{Span}
 use Rattle.box_grants.specs.Listed.{chooseOf}
 use Rattle.box_grants.specs.declared.Chosen.{Chosen}
 use Rattle.box_grants.specs.declared.Chosen.the-variants.{Nothing, Due}
-use Rattle.box_grants.specs.declared.Entry.{Entry}
 use Rattle.box_light.specs.Light.{atRest}
 use Rattle.box_registration.specs.Registration.{isRegistered}
 use Rattle.box_processes.specs.Parts.{withList}
@@ -22,11 +22,11 @@ use Rattle.box_activation.specs.Activation.{lightUp, begin, headFor, serve, act
 abbrev pub Leaves : Processes → Processes → Type 0
 Leaves p q = (q .count ≡ p .count) × (q .registration ≡ p .registration)
 
-begin-leaves : (p : Processes) (e : Entry) (sync wait : Quanta) → Leaves p (begin p e sync wait)
+begin-leaves : (p : Processes) (e : Span) (sync wait : Quanta) → Leaves p (begin p e sync wait)
 unfolding begin lightUp
 begin-leaves p e sync wait = either (Leaves p) (eqb (wait .0) 0) _ _ (λ _. (refl, refl)) (λ _. (refl, refl))
 
-head-leaves : (r : Reach) (p : Processes) (e : Entry) (sync : Quanta) → Leaves p (headFor p e sync r)
+head-leaves : (r : Reach) (p : Processes) (e : Span) (sync : Quanta) → Leaves p (headFor p e sync r)
 head-leaves Past p e sync = (refl, refl)
 head-leaves (Ahead wait) p e sync = begin-leaves p e sync wait
 

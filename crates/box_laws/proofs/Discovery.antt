@@ -14,7 +14,8 @@ use Rattle.box_calls.specs.Answer.{accepted}
 use Rattle.box_calls.specs.Hear.{isDiscovery, hearOf}
 use Rattle.box_calls.specs.declared.Answer.{Answer}
 use Rattle.box_calls.specs.declared.FloorBox.{FloorBox}
-use Rattle.box_laws.specs.Calls.{hear, step, Outcome, unsound, refuses, accepts, outcome}
+use Rattle.box_laws.specs.Calls.{step, Outcome, unsound, refuses, accepts, outcome}
+use Rattle.box_laws.specs.Stated.{hear}
 use Rattle.box_laws.specs.Discovery.{DiscoveryKeeps}
 use Rattle.box_laws.specs.Watchdog.{discovery-keeps}
 use Rattle.box_laws.proofs.Activated.{activate-leaves}

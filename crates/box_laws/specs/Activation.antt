@@ -1,4 +1,4 @@
--- Activation keeps the processes sound.
+-- Lemmas: activation keeps the processes sound.
 -- Assumes nothing.
 use Prim.Native.Nat.{_^_, _<_}
 use mathlib.Core.Path.{_≡_}
@@ -12,12 +12,12 @@ use Rattle.clock.specs.Counts.{gap}
 use Rattle.clock.specs.Laws.{near-of, reach-near}
 use Rattle.clock.specs.Numbers.{needed}
 use Rattle.clock.specs.declared.Quanta.{Quanta}
+use Rattle.clock.specs.declared.Span.{Span}
 use Rattle.box_grants.specs.Activation.{holds, remove}
 use Rattle.box_grants.specs.Keeps.{Fulfils, without-sound, without-entries, choose-entries, choose-sound, choose-fulfils}
 use Rattle.box_grants.specs.Listed.{listOf, packed, chooseOf}
 use Rattle.box_grants.specs.declared.Chosen.{Chosen}
 use Rattle.box_grants.specs.declared.Chosen.the-variants.{Nothing, Due}
-use Rattle.box_grants.specs.declared.Entry.{Entry}
 use Rattle.box_light.specs.Laws.{served-of, rest-sound, due-sound, lit-sound}
 use Rattle.box_light.specs.Light.{atRest}
 use Rattle.box_light.specs.Sound.{served}
@@ -31,7 +31,7 @@ use Rattle.box_laws.specs.Sound.{Sound, registered-is, shone, relisted}
 
 module _ (p : Processes) (s : Sound p) where
   -- a box that holds a grant is REGISTERED
-  held-registered : (e : Entry) → holds e (listOf (p .list)) ≡ true → isRegistered (p .registration .state) ≡ true
+  pub held-registered : (e : Span) → holds e (listOf (p .list)) ≡ true → isRegistered (p .registration .state) ≡ true
   held-registered e h =
       ⊎-elim (λ (t : isRegistered (p .registration .state) ≡ true). t)
       (λ (t : isRegistered (p .registration .state) ≡ false).
@@ -39,7 +39,7 @@ module _ (p : Processes) (s : Sound p) where
       absurd (false≢true (rw none at h)))
       (decided (isRegistered (p .registration .state)))
 
-  module _ (e : Entry) (sync : Quanta) (h : holds e (listOf (p .list)) ≡ true) (f : served (e .length) sync ≡ true) where
+  module _ (e : Span) (sync : Quanta) (h : holds e (listOf (p .list)) ≡ true) (f : served (e .length) sync ≡ true) where
     on : p .registration .state ≡ Registered
     on = registered-is (p .registration .state) (held-registered e h)
 

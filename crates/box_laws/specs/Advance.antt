@@ -1,4 +1,4 @@
--- R191 to R195, advance, at the box: what the call is worth. It is the iterated single ticks by its promise (`floorbox` Advance).
+-- Lemmas: R191 to R195 at the box: what an advance is worth. It is the iterated single ticks by its promise (the page Advance of box_calls).
 -- Assumes nothing.
 use Prim.Native.Nat.{ℕ, zero, suc, _+_, _≤_}
 use mathlib.Core.Path.{_≡_, refl}
@@ -17,8 +17,8 @@ use Rattle.box_calls.specs.Box.{soundOf, tickOf}
 use Rattle.box_calls.specs.declared.Advanced.{Advanced}
 use Rattle.box_calls.specs.declared.Answer.{Answer}
 use Rattle.box_calls.specs.declared.FloorBox.{FloorBox}
-use Rattle.box_laws.specs.Calls.{tick}
-use Rattle.box_laws.specs.Runs.{Run, calls, run-tick-done, run-sound}
+use Rattle.box_laws.specs.Stated.{tick, Run, calls}
+use Rattle.box_laws.specs.Runs.{run-tick-done, run-sound}
 
 -- an advance from a box that a run reaches: every tick is done, so that at least one is made, and the box after it is one that a run reaches
 abbrev Comes : ℕ → ℕ → Advanced → Type 0

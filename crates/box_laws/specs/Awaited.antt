@@ -1,4 +1,4 @@
--- A discovery window is on its way only in REGISTERING: every step keeps that, and then no tick is answered 14.
+-- Lemmas: a discovery window is on its way only in REGISTERING: every step keeps that, and then no tick is answered 14.
 -- Assumes nothing.
 use Prim.Native.Nat.{ℕ}
 use mathlib.Core.Path.{_≡_, refl, sym, _∙_}
@@ -13,6 +13,7 @@ use Rattle.clock.specs.declared.Quanta.{Quanta}
 use Rattle.clock.specs.declared.Reach.{Reach}
 use Rattle.clock.specs.declared.Reach.the-variants.{Past, Ahead}
 use Rattle.clock.specs.declared.Timer.{Timer}
+use Rattle.clock.specs.declared.Span.{Span}
 use Rattle.frame.specs.Layout.{listed}
 use Rattle.frame.specs.declared.Body.{Body}
 use Rattle.frame.specs.declared.Body.the-variants.{Gate, Discovery, Report, RegisterReq as Request, Register, RegisterAck}
@@ -22,7 +23,6 @@ use Rattle.frame.specs.declared.RegisterFlag.the-variants.{Reregister, Deregist
 use Rattle.box_grants.specs.Listed.{chooseOf}
 use Rattle.box_grants.specs.declared.Chosen.{Chosen}
 use Rattle.box_grants.specs.declared.Chosen.the-variants as chosen
-use Rattle.box_grants.specs.declared.Entry.{Entry}
 use Rattle.box_light.specs.Light.{randomly, atRest, timerOf, withTimer}
 use Rattle.box_light.specs.Tick.{after, tickOf as lightTick}
 use Rattle.box_light.specs.declared.Beam.{Beam}
@@ -83,11 +83,11 @@ none-awaited (Lit u length sync) s t e h = tt
 none-awaited (Open u) s t e h = tt
 
 -- activation waits for grants alone
-begin-calm : (p : Processes) (e : Entry) (sync wait : Quanta) → Calm (begin p e sync wait)
+begin-calm : (p : Processes) (e : Span) (sync wait : Quanta) → Calm (begin p e sync wait)
 unfolding begin lightUp
 begin-calm p e sync wait = either Calm (eqb (wait .0) 0) _ _ (λ _. tt) (λ _. tt)
 
-head-calm : (r : Reach) (p : Processes) (e : Entry) (sync : Quanta) → Calm p → Calm (headFor p e sync r)
+head-calm : (r : Reach) (p : Processes) (e : Span) (sync : Quanta) → Calm p → Calm (headFor p e sync r)
 head-calm Past p e sync h = h
 head-calm (Ahead wait) p e sync h = begin-calm p e sync wait
 

@@ -1,6 +1,5 @@
--- Document 01, "Each refusal changes nothing": a call of the box is accepted with every test passed, or it is refused and changes nothing.
+-- Lemmas: R68 and R69 of the box: a call is accepted with every test passed, or it is refused and changes nothing.
 -- Assumes nothing.
-use Prim.Native.Nat.{ℕ}
 use mathlib.Core.Path.{_≡_, refl, ap}
 use mathlib.Core.Bool.{true, false, not}
 use mathlib.Core.List.{List, [], _∷_}
@@ -13,12 +12,10 @@ use Rattle.clock.specs.Counts.{driftOf}
 use Rattle.frame.specs.Card.{Test, _unless_, given, numberOf}
 use Rattle.frame.specs.Tests.{Passed, Each, given-either}
 use Rattle.frame.specs.Ways.{goesToHead}
-use Rattle.frame.specs.declared.Message.{Message}
 use Rattle.frame.specs.declared.Reply.{Reply}
 use Rattle.frame.specs.declared.Reply.the-variants.{Done, Range, Direction, State, Party, Unsound, Window}
 use Rattle.frame_range.specs.Fits.{fitsMessage}
 use Rattle.box_registration.specs.Registration.{registering, isWaiting, isRegistered}
-use Rattle.box_telling.specs.Told.{noNotices, noFrames}
 use Rattle.box_processes.specs.Leaving.{localDeregister}
 use Rattle.box_processes.specs.Parts.{withCount, withRegistration, still}
 use Rattle.box_processes.specs.declared.Step.{Step}
@@ -29,19 +26,7 @@ use Rattle.box_calls.specs.Box.{soundOf, registerOf, deregisterOf, tickOf}
 use Rattle.box_calls.specs.Hear.{isFor, heardOf, hearOf}
 use Rattle.box_calls.specs.declared.Answer.{Answer}
 use Rattle.box_calls.specs.declared.FloorBox.{FloorBox}
-
--- the calls that a box answers, each with what its client hands in
-pub data Call : Type 0 where
-  register : Call
-  deregister : Call
-  hear : Message → ℕ → Call
-  tick : Call
-
-abbrev pub answer : Call → FloorBox → Answer
-answer register b = registerOf b
-answer deregister b = deregisterOf b
-answer (hear m random) b = hearOf b m random
-answer tick b = tickOf b
+use Rattle.box_laws.specs.Stated.{Call, register, deregister, hear, tick, answer, Unchanged}
 
 -- the tests of a call after that of the box, in order
 abbrev pub tests : Call → FloorBox → List Test
@@ -98,13 +83,6 @@ outcome c b =
     (either (Outcome c b) (soundOf b) _ _
     (λ s. given-either Other (Outcome c b) (tests c b) (refused b) a (tests-other c b) (λ r o. refuses s r (o .0) (o .1) refl) (λ h. accepts s h refl))
     (λ s. unsound s refl))
-
--- nothing but its reply is told of a refusal
-pub record Unchanged (b : FloorBox) (x : Answer) : Type 0 where
-  pub drift : x .drift ≡ pos 0
-  pub next : x .next ≡ b
-  pub frames : x .frames ≡ noFrames
-  pub notices : x .notices ≡ noNotices
 
 refusal : (b : FloorBox) (x : Answer) (r : Reply) → x ≡ refused b r → Unchanged b x
 refusal b x r e = rw e (record { drift = refl; next = refl; frames = refl; notices = refl })

@@ -1,4 +1,4 @@
--- Rules: a discovery GATE restarts no timer of the registration, at the box's whole call: floor 31.
+-- Statement: a discovery GATE restarts no timer of the registration, at the box's whole call (R122, R219).
 -- Assumes nothing.
 use Prim.Native.Nat.{ℕ}
 use mathlib.Core.Path.{_≡_}

@@ -1,5 +1,4 @@
--- Document 01, "The box's frames go from its own address .. with its count": the frames of an accepted call are the encodings of valid
--- messages.
+-- Lemmas: R99: the frames of an accepted call are the encodings of valid messages.
 -- Assumes nothing.
 use Prim.Native.Nat.{_/_, _%_, _^_, _<_}
 use mathlib.Core.Path.{_≡_, refl, sym, ap, _∙_}
@@ -34,7 +33,8 @@ use Rattle.box_calls.specs.Answer.{messageOf, refused, framed, accepted}
 use Rattle.box_calls.specs.Box.{soundOf}
 use Rattle.box_calls.specs.declared.Answer.{Answer}
 use Rattle.box_calls.specs.declared.FloorBox.{FloorBox}
-use Rattle.box_laws.specs.Calls.{Call, register, deregister, hear, tick, answer, tests, step, drift, Outcome, unsound, refuses, accepts, outcome}
+use Rattle.box_laws.specs.Calls.{tests, step, drift, Outcome, unsound, refuses, accepts, outcome}
+use Rattle.box_laws.specs.Stated.{Call, register, deregister, hear, tick, answer}
 use Rattle.box_laws.specs.Sends.{SentFits, Sends, tick-sends, hear-sends}
 
 -- what the types of the code's numbers see to

@@ -1,4 +1,4 @@
--- Document 01, "Normal GATE": the list after it is the list before it and, behind that, the grants taken.
+-- Lemmas: R123: the list after a normal GATE is the list before it and, behind that, the grants taken.
 -- Assumes nothing.
 use Prim.Native.Nat.{ℕ, _+_, _≤_}
 use mathlib.Core.Path.{_≡_, refl, sym, _∙_}
@@ -10,6 +10,7 @@ use lib.Dec.{ltb, leb}
 use lib.ListN.{length, length-take, length-map}
 use Rattle.laws.specs.Cases.{either}
 use Rattle.clock.specs.Numbers.{startInRange}
+use Rattle.clock.specs.declared.Span.{Span}
 use Rattle.frame.specs.Layout.{listed}
 use Rattle.frame.specs.declared.Grant.{Grant}
 use Rattle.frame.specs.declared.Grants.{Grants}
@@ -19,7 +20,6 @@ use Rattle.box_grants.specs.Activation.{holds}
 use Rattle.box_grants.specs.Keeps.{sound-parts, pushed-entries, push-list, push-holds, pushed-sound}
 use Rattle.box_grants.specs.Listed.{listOf, pushed}
 use Rattle.box_grants.specs.Sound.{inRange, soundOf as listSound}
-use Rattle.box_grants.specs.declared.Entry.{Entry}
 use Rattle.box_grants.specs.declared.GrantList.{GrantList}
 use Rattle.box_registration.specs.Registration.{isRegistered}
 use Rattle.box_telling.specs.declared.Notice.the-variants.{Granted}
@@ -32,9 +32,9 @@ use Rattle.box_laws.specs.Sound.{Sound}
 pub record Takes (l s : GrantList) : Type 0 where
   pub list : listSound s ≡ true
   pub places : length (s .entries) ≡ 16
-  pub held : (e : Entry) → holds e (listOf l) ≡ true → holds e (listOf s) ≡ true
+  pub held : (e : Span) → holds e (listOf l) ≡ true → holds e (listOf s) ≡ true
 
-pushes-take : (l : GrantList) (es : List Entry) (s : GrantList) → inRange es ≡ true → Takes l s → Takes l (foldl pushed s es)
+pushes-take : (l : GrantList) (es : List Span) (s : GrantList) → inRange es ≡ true → Takes l s → Takes l (foldl pushed s es)
 pushes-take l [] s h k = k
 pushes-take l (e ∷ es) s h k =
     let r = and-eq-true-iff (leb (e .length .0) 65535) (inRange es) .0 h in
@@ -77,7 +77,7 @@ taken-room now number (g ∷ gs) h =
     omega arith)
     (λ _. taken-room now number gs h)
 
-pushes-list : (es : List Entry) (s : GrantList) → length (s .entries) ≡ 16 → s .number + length es ≤ 16
+pushes-list : (es : List Span) (s : GrantList) → length (s .entries) ≡ 16 → s .number + length es ≤ 16
     → listOf (foldl pushed s es) ≡ listOf s ++ es
 pushes-list [] s n h = sym (append-nil (listOf s))
 pushes-list (e ∷ es) s n h =

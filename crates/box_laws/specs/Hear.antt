@@ -1,4 +1,4 @@
--- Every message that is in range keeps the processes sound.
+-- Lemmas: every message that is in range keeps the processes sound.
 -- Assumes nothing.
 use Prim.Native.Nat.{ℕ, _≤_}
 use mathlib.Core.Path.{_≡_, refl, sym, _∙_}

@@ -1,4 +1,4 @@
--- Rules: when the laser is on.
+-- Statement: when the laser is on (R84, R135, R143).
 -- Assumes nothing.
 use Prim.Native.Nat.{_≤_}
 use mathlib.Core.Path.{_≡_}

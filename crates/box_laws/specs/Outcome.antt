@@ -1,4 +1,4 @@
--- The four ways that an advance of a box comes out, whatever its state: 13, 9, the refusal of its first tick, or at least one tick made.
+-- Lemmas: the four ways that an advance of a box comes out, whatever its state: 13, 9, the refusal of its first tick, or at least one tick made.
 -- Assumes nothing.
 use Prim.Native.Nat.{ℕ, zero, suc, _+_, _≤_}
 use mathlib.Core.Path.{_≡_, refl, sym, subst}

@@ -1,4 +1,4 @@
--- Every box that a run from a fresh one reaches is sound: no call on it is answered 13, and its tick never 14.
+-- Lemmas: every box that a run from a fresh one reaches is sound: no call on it is answered 13, and its tick never 14.
 -- Assumes nothing.
 use mathlib.Core.Path.{_≡_, sym, _∙_}
 use mathlib.Core.Bool.{true, false, true≢false}
@@ -12,14 +12,10 @@ use Rattle.box_calls.specs.Answer.{refused, accepted}
 use Rattle.box_calls.specs.Box.{soundOf, freshOf, tickOf}
 use Rattle.box_calls.specs.declared.Answer.{Answer}
 use Rattle.box_calls.specs.declared.FloorBox.{FloorBox}
-use Rattle.box_laws.specs.Calls.{Call, answer, Outcome, unsound, refuses, accepts, outcome}
+use Rattle.box_laws.specs.Calls.{Outcome, unsound, refuses, accepts, outcome}
+use Rattle.box_laws.specs.Stated.{Call, answer, Run, fresh, calls}
 use Rattle.box_laws.specs.Sound.{sound-test}
 use Rattle.box_laws.specs.Steady.{Steady, fresh-steady, call-steady, tick-ok}
-
--- the boxes that a run reaches: a fresh one, and what any call leaves, accepted or refused
-pub data Run : FloorBox → Type 0 where
-  fresh : (a : Address) → isIndividual a ≡ true → Run (freshOf a .next)
-  calls : (b : FloorBox) → Run b → (c : Call) → Run (answer c b .next)
 
 -- what holds of each
 pub record Holds (b : FloorBox) : Type 0 where

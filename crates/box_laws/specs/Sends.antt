@@ -1,4 +1,4 @@
--- Document 01, "Steps of the box": what each call sends fits its fields, and the count that it leaves.
+-- Lemmas: what each call of the box sends fits its fields, and the count that it leaves.
 -- Assumes nothing.
 use Prim.Native.Nat.{ℕ, _^_, _<_}
 use mathlib.Core.Path.{_≡_, refl, _∙_}

@@ -1,4 +1,4 @@
--- Document 01, "Sound box", of the processes: its parts as facts, and what a change of one part asks for to keep the rest.
+-- Lemmas: sound processes: their parts as facts, and what a change of one part asks for to keep the rest.
 -- Assumes nothing.
 use mathlib.Core.Path.{_≡_, refl}
 use mathlib.Core.Bool.{true, false, _&&_, _||_, or-true, and-eq-true-iff, false≢true}

@@ -1,4 +1,4 @@
--- Every call keeps a sound box sound, and a discovery window on its way only in REGISTERING; then a tick is never answered 14.
+-- Lemmas: every call keeps a sound box sound, and a discovery window on its way only in REGISTERING; then a tick is never answered 14.
 -- Assumes nothing.
 use mathlib.Core.Path.{_≡_, refl}
 use mathlib.Core.Bool.{true, _&&_, and-eq-true-iff}
@@ -16,7 +16,8 @@ use Rattle.box_calls.specs.declared.Answer.{Answer}
 use Rattle.box_calls.specs.declared.FloorBox.{FloorBox}
 use Rattle.box_laws.specs.Activation.{activate-keeps}
 use Rattle.box_laws.specs.Awaited.{Calm, any-awaited, activate-calm, tick-calm, hear-calm}
-use Rattle.box_laws.specs.Calls.{Call, register, deregister, hear, tick, answer, tests, step, Outcome, unsound, refuses, accepts, outcome}
+use Rattle.box_laws.specs.Calls.{tests, step, Outcome, unsound, refuses, accepts, outcome}
+use Rattle.box_laws.specs.Stated.{Call, register, deregister, hear, tick, answer}
 use Rattle.box_laws.specs.Hear.{hear-keeps}
 use Rattle.box_laws.specs.Sound.{Sound, fresh-sound, count-keeps, registering-keeps, waiting-keeps}
 use Rattle.box_laws.specs.Tick.{tick-keeps}

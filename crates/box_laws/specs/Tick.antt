@@ -1,4 +1,4 @@
--- A tick keeps the processes sound.
+-- Lemmas: a tick keeps the processes sound.
 -- Assumes nothing.
 use mathlib.Core.Path.{_≡_, refl}
 use mathlib.Core.Bool.{true, false≢true}

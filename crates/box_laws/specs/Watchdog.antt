@@ -1,4 +1,4 @@
--- Document 01, "Slips this trade knows": a discovery GATE does not restart the watchdog, nor any other timer of the registration.
+-- Lemmas: R219: a discovery GATE restarts neither the watchdog nor any other timer of the registration, before activation.
 -- Assumes nothing.
 use Prim.Native.Nat.{ℕ}
 use mathlib.Core.Path.{_≡_, refl}

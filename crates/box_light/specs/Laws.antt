@@ -14,9 +14,9 @@ use Rattle.clock.specs.Numbers.{laserOn, furthest, quantaOf, needed, randomWait
 use Rattle.clock.specs.Timers.{runs, ticked}
 use Rattle.clock.specs.declared.Quanta.{Quanta}
 use Rattle.clock.specs.declared.Timer.{Timer}
+use Rattle.clock.specs.declared.Span.{Span}
 use Rattle.box_grants.specs.Activation.{holds}
 use Rattle.box_grants.specs.Listed.{listOf}
-use Rattle.box_grants.specs.declared.Entry.{Entry}
 use Rattle.box_grants.specs.declared.GrantList.{GrantList}
 use Rattle.box_light.specs.Light.{laserOnFor, restOf, randomly, atRest, timerOf, withTimer}
 use Rattle.box_light.specs.Pass.{passedOf, quietOf}
@@ -54,7 +54,7 @@ pub served-of : (length sync : Quanta) → needed (sync .0) ≤ length .0 → le
 unfolding served
 served-of length sync h k = rw (le-leb (needed (sync .0)) (length .0) h, le-leb (length .0) 65535 k)
 
-due-parts : (t : Timer) (entry : Entry) (sync : Quanta) (s : GrantList) → soundOf (Due t entry sync) s ≡ true
+due-parts : (t : Timer) (entry : Span) (sync : Quanta) (s : GrantList) → soundOf (Due t entry sync) s ≡ true
     → (runs t (2 ^ 31 - 1) ≡ true) × (holds entry (listOf s) ≡ true) × (served (entry .length) sync ≡ true)
 due-parts t entry sync s h =
     let p = and-eq-true-iff (runs t (2 ^ 31 - 1) && holds entry (listOf s)) (served (entry .length) sync) .0 h in
@@ -103,7 +103,7 @@ module _ (s : GrantList) where
       let f = fits-in (random .0) sync h in
       rw (runs-of (record { left = random .0 }) 65535 (omega arith) (omega arith), h))
 
-  pub due-sound : (n : ℕ) (e : Entry) (sync : Quanta) → 1 ≤ n → n < 2 ^ 31 → holds e (listOf s) ≡ true → served (e .length) sync ≡ true
+  pub due-sound : (n : ℕ) (e : Span) (sync : Quanta) → 1 ≤ n → n < 2 ^ 31 → holds e (listOf s) ≡ true → served (e .length) sync ≡ true
       → soundOf (Due (record { left = n }) e sync) s ≡ true
   due-sound n e sync h k i f = rw (runs-of (record { left = n }) (2 ^ 31 - 1) h (omega arith), i, f)
 
@@ -179,12 +179,12 @@ module _ (s : GrantList) where
   unfolding tickOf
   tick-begins l h = either (λ (t : LightTicked). Begins (t .beam)) (ticked (timerOf l) .rang) _ _ (λ _. after-begins l h) (λ _. tt)
 
-  pub tick-start : (l : Light) (e : Entry) (sync : Quanta) → soundOf l s ≡ true → tickOf l .beam ≡ Start e sync
+  pub tick-start : (l : Light) (e : Span) (sync : Quanta) → soundOf l s ≡ true → tickOf l .beam ≡ Start e sync
       → (holds e (listOf s) ≡ true) × (served (e .length) sync ≡ true)
   tick-start l e sync h b = rw b at (tick-begins l h)
 
 -- another list serves as well if it holds what the first does; a transmitter that waits for no grant asks nothing of it
-pub sound-list : (l : Light) (s u : GrantList) → ((e : Entry) → holds e (listOf s) ≡ true → holds e (listOf u) ≡ true)
+pub sound-list : (l : Light) (s u : GrantList) → ((e : Span) → holds e (listOf s) ≡ true → holds e (listOf u) ≡ true)
     → soundOf l s ≡ true → soundOf l u ≡ true
 sound-list Rest s u f h = h
 sound-list (Before t random sync) s u f h = h

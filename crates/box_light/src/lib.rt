@@ -4,10 +4,10 @@ ghost use Rattle.box_light.specs.Light.{laserOnFor, restOf, atRest, time
 ghost use Rattle.box_light.specs.Pass.{passedOf, quietOf};
 ghost use Rattle.box_light.specs.Sound.{waitFits, served, soundOf};
 ghost use Rattle.box_light.specs.Tick.{after, tickOf};
-use box_grants::Entry;
 use box_grants::GrantList;
 use clock::Count;
 use clock::Quanta;
+use clock::Span;
 use clock::Timer;
 
 // Discovery: before its start, in the random wait, laser on, transmission enabled. A normal grant: waited for, laser on,
@@ -31,7 +31,7 @@ pub enum Light {
     },
     Due {
         timer: Timer,
-        entry: Entry,
+        entry: Span,
         sync: Quanta,
     },
     Lit {
@@ -48,7 +48,7 @@ pub enum Light {
 pub enum Beam {
     Quiet,
     Window,
-    Start(Entry, Quanta),
+    Start(Span, Quanta),
     Opened,
     Closed,
 }

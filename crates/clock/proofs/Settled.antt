@@ -20,6 +20,12 @@ use Rattle.clock.proofs.Count.drift.Kinds as drift-kinds
 use Rattle.clock.proofs.Count.drift.Reads as drift-reads
 use Rattle.clock.proofs.Count.round_trip.Kinds as round-trip-kinds
 use Rattle.clock.proofs.Count.round_trip.Reads as round-trip-reads
+use Rattle.clock.proofs.Span.none.Kinds as span-none-kinds
+use Rattle.clock.proofs.Span.none.Reads as span-none-reads
+use Rattle.clock.proofs.Span.same.Kinds as span-same-kinds
+use Rattle.clock.proofs.Span.same.Reads as span-same-reads
+use Rattle.clock.proofs.Span.nearer.Kinds as span-nearer-kinds
+use Rattle.clock.proofs.Span.nearer.Reads as span-nearer-reads
 use Rattle.clock.proofs.Timer.stopped.Kinds as stopped-kinds
 use Rattle.clock.proofs.Timer.stopped.Reads as stopped-reads
 use Rattle.clock.proofs.Timer.start.Kinds as start-kinds
@@ -73,6 +79,15 @@ drift-settles κs a e x y p q = p ∙ sym q
 
 pub round-trip-settles : Settles 0 round-trip-kinds.ps round-trip-kinds.r round-trip-reads.Post
 round-trip-settles κs a e x y p q = p ∙ sym q
+
+pub span-none-settles : Settles 0 span-none-kinds.ps span-none-kinds.r span-none-reads.Post
+span-none-settles κs a e x y p q = p ∙ sym q
+
+pub span-same-settles : Settles 0 span-same-kinds.ps span-same-kinds.r span-same-reads.Post
+span-same-settles κs a e x y p q = p ∙ sym q
+
+pub span-nearer-settles : Settles 0 span-nearer-kinds.ps span-nearer-kinds.r span-nearer-reads.Post
+span-nearer-settles κs a e x y p q = p ∙ sym q
 
 pub stopped-settles : Settles 0 stopped-kinds.ps stopped-kinds.r stopped-reads.Post
 stopped-settles κs a e x y p q = p ∙ sym q

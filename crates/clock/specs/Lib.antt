@@ -1,4 +1,5 @@
 pub mod Counts
 pub mod Numbers
+pub mod Spans
 pub mod Timers
 pub mod Laws

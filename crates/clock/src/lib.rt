@@ -3,6 +3,7 @@ ghost use Prim.Native.Nat.{_-_, min};
 ghost use mathlib.Core.Path.{_≡_};
 ghost use Rattle.clock.specs.Counts.{nextOf, laterOf, distance, isPast, nearer, reach, driftOf, roundTrip};
 ghost use Rattle.clock.specs.Numbers.{startInRange, inReach, fits, needed};
+ghost use Rattle.clock.specs.Spans.{none, same, nearerOf};
 ghost use Rattle.clock.specs.Timers.{stopped, off, runs, ticked, passedOf, quietOf};
 
 // The smaller of two numbers.
@@ -41,6 +42,12 @@ pub struct Count(pub u32);
 
 // A length: a number of quanta.
 pub struct Quanta(pub u32);
+
+// What is kept of a grant.
+pub struct Span {
+    pub start: Count,
+    pub length: Quanta,
+}
 
 // A count seen from now: its distance is a length unless it is past.
 pub enum Reach {
@@ -166,6 +173,38 @@ impl Count {
             return Quanta((since + Count::TURN) as u32);
         }
         Quanta(since as u32)
+    }
+}
+
+impl Span {
+    pub fn none() -> Span
+        ensures { λ r. ⌜ r ≡ none ⌝ }
+    {
+        Span {
+            start: Count(0),
+            length: Quanta(0),
+        }
+    }
+
+    // Start and length both match.
+    pub fn same(self, other: Span) -> bool
+        ensures { λ r. ⌜ r ≡ same self other ⌝ }
+    {
+        let a = self.start;
+        let b = other.start;
+        let m = self.length;
+        let n = other.length;
+        (a.0 == b.0) & (m.0 == n.0)
+    }
+
+    // The nearer of two, and of two that are as near this one.
+    pub fn nearer(self, now: Count, other: Span) -> Span
+        ensures { λ r. ⌜ r ≡ nearerOf (now .0) self other ⌝ }
+    {
+        if now.nearer(other.start, self.start) {
+            return other;
+        }
+        self
     }
 }
 

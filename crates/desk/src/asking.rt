@@ -1,9 +1,9 @@
 // A client's request, by its name and its numbers.
 ghost use Prim.Native.Nat.{_≤_};
 use clock::Count;
+use clock::Span;
 use frame::Address;
 use head_gating::Asked;
-use head_gating::Leave;
 use head_judging::Call;
 use script::messages;
 use script::words;
@@ -50,17 +50,17 @@ fn deregister(of: [u64; 15]) -> Call {
     }
 }
 
-fn leave(of: [u64; 15], at: usize) -> Leave
+fn span(of: [u64; 15], at: usize) -> Span
     requires { ⌜ at ≤ 13 ⌝ }
 {
-    Leave {
+    Span {
         start: Count(messages::modulo_32(of[at])),
         length: messages::quanta(of[at + 1]),
     }
 }
 
 // As many as the numbers behind the force bits make.
-fn leaves(number: usize) -> usize {
+fn spans(number: usize) -> usize {
     if number < 2 {
         return 0;
     }
@@ -71,11 +71,11 @@ fn leaves(number: usize) -> usize {
 fn gate(n: Numbers) -> Call {
     let of = n.of;
     let asked = Asked {
-        number: leaves(n.number),
-        first: leave(of, 2),
-        second: leave(of, 4),
-        third: leave(of, 6),
-        fourth: leave(of, 8),
+        number: spans(n.number),
+        first: span(of, 2),
+        second: span(of, 4),
+        third: span(of, 6),
+        fourth: span(of, 8),
         force: messages::modulo_8(of[1]),
     };
     let link = of[0] as usize;

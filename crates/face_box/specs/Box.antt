@@ -7,9 +7,8 @@ use lib.Dec.{eqb}
 use lib.ListN.{take, drop, getD}
 use Rattle.clock.specs.Timers.{stopped}
 use Rattle.clock.specs.declared.Timer.{Timer}
+use Rattle.clock.specs.declared.Span.{Span}
 use Rattle.box_calls.specs.declared.FloorBox.{FloorBox}
-use Rattle.box_grants.specs.declared.Entry.{Entry}
-use Rattle.box_grants.specs.declared.GrantList.{GrantList}
 use Rattle.box_light.specs.declared.Light.{Light}
 use Rattle.box_light.specs.declared.Light.the-variants.{Rest, Before, Random, Warming, Asking, Due, Lit, Open}
 use Rattle.box_registration.specs.declared.Registration.{Registration}
@@ -22,14 +21,11 @@ use Rattle.face_box.specs.declared.Front.{Front}
 use Rattle.face_box.specs.declared.LightWords.{LightWords}
 
 -- a grant's start above its length: every word is one grant's, and every grant has one word
-abbrev pub entryWord : Entry → ℕ
+abbrev pub entryWord : Span → ℕ
 entryWord e = joined (e .start .0) (e .length .0)
 
-abbrev pub entryOf : ℕ → Entry
+abbrev pub entryOf : ℕ → Span
 entryOf w = record { start = record { 0 = upper w }; length = record { 0 = lower w } }
-
-abbrev pub listOf : ℕ → List ℕ → GrantList
-listOf number entries = record { entries = map entryOf entries; number = number }
 
 abbrev pub stateWord : State → ℕ
 stateWord Wait = 0
@@ -121,7 +117,7 @@ frontIn b =
     let p = b .processes in
     record { address = b .address; count = p .count; registration = p .registration; light = p .light; number = p .list .number }
 
-abbrev pub boxed : Front → List Entry → FloorBox
+abbrev pub boxed : Front → List Span → FloorBox
 boxed f entries =
     record {
       address = f .address;

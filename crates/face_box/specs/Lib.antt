@@ -1,4 +1,5 @@
 pub mod Box
 pub mod Laws
 pub mod Laying
+pub mod Listing
 pub mod Told

@@ -2,12 +2,12 @@
 ghost use mathlib.Core.Path.{_≡_};
 ghost use mathlib.Core.List.{map};
 ghost use lib.ListN.{drop};
-ghost use Rattle.face_box.specs.Box.{entryWord, entryOf, stateWord, stateOf, registrationOf, phaseWords, lightWords, discoveryOf, lightOf, listOf, frontWords, frontOf, boxed, isClear, hasWords, boxWords, nobody, boxIn};
+ghost use Rattle.face_box.specs.Box.{entryWord, entryOf, stateWord, stateOf, registrationOf, phaseWords, lightWords, discoveryOf, lightOf, frontWords, frontOf, boxed, isClear, hasWords, boxWords, nobody, boxIn};
+ghost use Rattle.face_box.specs.Listing.{listOf};
 ghost use Rattle.face_box.specs.Laying.{howMany, layout};
 ghost use Rattle.face_box.specs.Told.{kindWords, noticeWords, toldWords};
 ghost use Rattle.face_words.specs.Words.{laid};
 use box_calls::FloorBox;
-use box_grants::Entry;
 use box_grants::GrantList;
 use box_light::Light;
 use box_processes::Processes;
@@ -17,6 +17,7 @@ use box_telling::Notice;
 use box_telling::Notices;
 use clock::Count;
 use clock::Quanta;
+use clock::Span;
 use clock::Timer;
 use frame::Address;
 
@@ -46,7 +47,7 @@ pub struct Front {
 }
 
 // A grant's start above its length.
-fn entry_word(e: Entry) -> u64
+fn entry_word(e: Span) -> u64
     ensures { λ r. ⌜ r ≡ entryWord e ⌝ }
 {
     let start = e.start;
@@ -54,10 +55,10 @@ fn entry_word(e: Entry) -> u64
     face_words::join(start.0, length.0)
 }
 
-pub fn entry_of(word: u64) -> Entry
+pub fn entry_of(word: u64) -> Span
     ensures { λ r. ⌜ r ≡ entryOf word ⌝ }
 {
-    Entry {
+    Span {
         start: Count(face_words::upper(word)),
         length: Quanta(face_words::lower(word)),
     }

@@ -11,15 +11,12 @@ ghost use Rattle.face_box_pass.specs.Block.{wordsAt, boxAt, untilCall};
 ghost use Rattle.clock.specs.Numbers.{inReach};
 ghost use Rattle.face_box.specs.Box.{boxWords};
 ghost use Rattle.face_words.specs.Words.{laid};
-ghost use Rattle.box_calls.specs.Answer.{refused};
 ghost use Rattle.box_calls.specs.Box.{registerOf, deregisterOf, tickOf};
 use box_calls::Answer;
 use box_calls::FloorBox;
 use box_telling::Frames;
-use box_telling::Notices;
 use face_words::SHORT;
 use frame::Address;
-use frame::Reply;
 
 // Words of a box, octets of the frames that a call hands out, words of what it tells at most.
 const BOX: usize = 29;
@@ -131,19 +128,6 @@ fn tell_nothing(reply: &mut [u64])
     face_words::lay(&nothing, reply);
 }
 
-// A frame that the reader refuses changes nothing.
-fn refused(b: FloorBox, reply: Reply) -> Answer
-    ensures { λ r. ⌜ r ≡ refused b reply ⌝ }
-{
-    Answer {
-        reply,
-        drift: 0,
-        next: b,
-        frames: Frames::none(),
-        notices: Notices::none(),
-    }
-}
-
 fn heard(b: FloorBox, octets: &[u8], random: u32) -> Answer
     ensures { λ r. ⌜ r ≡ heardOf (now (octets .entry)) random b ⌝ }
 {
@@ -151,7 +135,7 @@ fn heard(b: FloorBox, octets: &[u8], random: u32) -> Answer
     let reply = reading.reply;
     let message = reading.message;
     if reply.number() != 0 {
-        return refused(b, reply);
+        return b.refused(reply);
     }
     b.hear(message, random)
 }

@@ -8,7 +8,8 @@ use native.Mathlib.Omega.{arith}
 use borrow.Author.Tests.{ltb-false, le-ltb}
 use lib.Dec.{ltb}
 use lib.ListN.{length, take, drop, getD, replicate, length-take, take-append-drop}
-use Rattle.face_box.specs.Box.{listOf, lightWords, frontWords, frontOf, isClear, hasWords, isBox, boxOf, boxIn, boxWords}
+use Rattle.face_box.specs.Box.{lightWords, frontWords, frontOf, isClear, hasWords, isBox, boxOf, boxIn, boxWords}
+use Rattle.face_box.specs.Listing.{listOf}
 use Rattle.face_box.specs.Laws.{clear-is, words-again}
 use Rattle.clock.specs.Counts.{laterOf}
 use Rattle.clock.specs.Timers.{passedOf as timerPassed}

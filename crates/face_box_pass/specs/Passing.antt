@@ -1,4 +1,4 @@
--- Code: quiet ticks as the code makes them, word by word; `specs/Passes.antt` shows that they are those of the box in the block.
+-- Face: a block of the caller's memory after quiet ticks, word by word; `specs/Passes.antt` shows that they are those of the box in it.
 -- Assumes nothing.
 use Prim.Native.Nat.{ℕ, _+_, _-_, _%_}
 use mathlib.Core.Bool.{cond}

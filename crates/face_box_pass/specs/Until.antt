@@ -11,13 +11,15 @@ use lib.Dec.{eqb, leb}
 use lib.ListN.{length, take, drop}
 use lib.Seq.{take-take, drop-drop, take-add}
 use Rattle.laws.specs.Cases.{cut}
-use Rattle.face_box.specs.Box.{entryOf, listOf, stateWord, stateOf, registrationOf, lightWords, discoveryOf as discovering, lightOf as lighting, frontWords, frontOf, isClear, hasWords, isBox, boxOf, boxIn}
+use Rattle.face_box.specs.Box.{entryOf, stateWord, stateOf, registrationOf, lightWords, discoveryOf as discovering, lightOf as lighting, frontWords, frontOf, isClear, hasWords, isBox, boxOf, boxIn}
+use Rattle.face_box.specs.Listing.{listOf}
 use Rattle.clock.specs.Timers.{runs, quietOf as timerQuiet}
+use Rattle.clock.specs.Spans.{same}
 use Rattle.face_fields.specs.Fields.{timerOf, quantaOf}
 use Rattle.face_words.specs.Words.{upper, lower}
 use Rattle.box_calls.specs.Box.{soundOf}
 use Rattle.box_calls.specs.Pass.{quietOf}
-use Rattle.box_grants.specs.Activation.{same, holds}
+use Rattle.box_grants.specs.Activation.{holds}
 use Rattle.box_grants.specs.Listed.{listOf as heldIn}
 use Rattle.box_grants.specs.Sound.{inRange, soundOf as listSound}
 use Rattle.box_grants.specs.declared.GrantList.{GrantList}

@@ -1,3 +1,4 @@
 pub mod Message
 pub mod Tells
+pub mod Steps
 pub mod Laws

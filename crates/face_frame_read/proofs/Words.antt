@@ -16,7 +16,8 @@ use Rattle.octets.specs.Octets.{fieldOf}
 use Rattle.frame.specs.Layout.{forceBits}
 use Rattle.frame.specs.Reading.{oneOf}
 use Rattle.frame.specs.declared.Body.the-variants.{Gate}
-use Rattle.frame_reader.specs.Decode.{bit, few, grantAt, registerReqAt, registerAt, registerAckAt}
+use Rattle.frame_reader.specs.Decode.{bit, grantAt, registerReqAt, registerAt, registerAckAt}
+use Rattle.frame_reader.specs.Flags.{few}
 use Rattle.frame_reader.proofs.Gate.{one-odd, grantsFrom, four-from, take-from, bits-from}
 use Rattle.face_frame.specs.Laws.{req-flag-word, flag-word, ack-flag-word}
 use Rattle.face_frame.specs.Message.{messageWords, fieldsOf}

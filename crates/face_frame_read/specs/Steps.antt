@@ -6,7 +6,8 @@ use mathlib.Core.List.{List, [], _∷_}
 use lib.Dec.{eqb, leb}
 use lib.ListN.{take, drop}
 use Rattle.octets.specs.Octets.{fieldOf}
-use Rattle.frame_reader.specs.Decode.{bit, quantaAt, grantAt, few}
+use Rattle.frame_reader.specs.Decode.{bit, quantaAt, grantAt}
+use Rattle.frame_reader.specs.Flags.{few}
 use Rattle.frame.specs.Reading.{refusal}
 use Rattle.frame.specs.declared.Body.{Body}
 use Rattle.frame.specs.declared.Body.the-variants.{Gate, Discovery}

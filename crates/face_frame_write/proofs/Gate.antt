@@ -18,7 +18,7 @@ use Rattle.frame.specs.declared.Body.the-variants.{Gate}
 use Rattle.frame.specs.declared.Grant.{Grant}
 use Rattle.frame_range.specs.Fits.{fitsBody}
 use Rattle.frame_reader.proofs.Gate.{one-odd, listed-short, few-listed, bits-below}
-use Rattle.frame_reader.specs.Decode.{few}
+use Rattle.frame_reader.specs.Flags.{few}
 use Rattle.face_frame.specs.Tells.{grantsOf, bodyOf}
 use Rattle.face_words.specs.Laws.{joined-again}
 use Rattle.face_words.specs.Words.{lower}

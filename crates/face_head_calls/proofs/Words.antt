@@ -38,7 +38,8 @@ use Rattle.head_calls.specs.Serve.{Served, doneOf, serveOf}
 use Rattle.head_calls.specs.declared.Answer.{Answer}
 use Rattle.face_words.specs.Laws.{laid-over}
 use Rattle.face_words.specs.Words.{short, laid}
-use Rattle.face_head_calls.specs.Calls.{Left, left, AnswerLeft, answerLeft, begunLeft, advanceLeft, Told, told, isLent, laidHead, keptHead, keptLinks, begunHead, toldOf, answeredOf, handed, servedOf, advancedOf, advanceCall, quietBy, refusedOf, heardOf, cleared, begunOf as begun}
+use Rattle.face_head_calls.specs.Answered.{AnswerLeft, answerLeft, toldOf, answeredOf, quietBy}
+use Rattle.face_head_calls.specs.Calls.{Left, left, begunLeft, advanceLeft, Told, told, isLent, laidHead, keptHead, keptLinks, begunHead, handed, servedOf, advancedOf, advanceCall, refusedOf, heardOf, cleared, begunOf as begun}
 use Rattle.face_head_calls.specs.Lend.{keptOf, LendLeft, lendLeft, lendOf, ClearLeft, clearLeft, clearOf}
 
 length-places : (f : ℕ → Link → Link) (k : ℕ) (xs : List Link) → length (places f k xs) ≡ length xs

@@ -2,19 +2,17 @@
 -- where too little is lent.
 -- Assumes nothing.
 use Prim.Native.Nat.{ℕ}
-use mathlib.Core.Bool.{Bool, false, cond, _&&_}
+use mathlib.Core.Bool.{Bool, cond, _&&_}
 use mathlib.Core.List.{List, [], _∷_}
 use lib.Dec.{eqb, leb}
 use lib.ListN.{length, replicate}
-use Rattle.clock.specs.Numbers.{inReach}
 use Rattle.frame.specs.Card.{numberOf}
 use Rattle.frame.specs.declared.Address.{Address}
 use Rattle.frame.specs.declared.Reply.{Reply}
 unfoldable pub use Rattle.face_head_pass.specs.Quiet.{headAt, quietOf, untilCall}
 use Rattle.face_head.specs.Head.{headWords}
-use Rattle.face_head.specs.Table.{tableWords, linksIn, linksAt}
+use Rattle.face_head.specs.Table.{tableWords, linksAt}
 use Rattle.face_head.specs.Told.{toldWords}
-use Rattle.head_judging.specs.Judge.{hasRoom}
 use Rattle.head_judging.specs.declared.Call.{Call}
 use Rattle.head_links.specs.declared.Link.{Link}
 use Rattle.frame_reader.specs.Decode.{readOf}
@@ -67,24 +65,6 @@ keptHead a head = cond (isDone (a .reply)) (laidHead a head) head
 unfoldable pub keptLinks : Answer → List Link → List ℕ → List ℕ
 keptLinks a xs links = cond (isDone (a .reply)) (laid (tableWords xs) links) links
 
-unfoldable pub toldOf : Answer → List ℕ → Told
-toldOf a reply = told (numberOf (a .reply)) (laid (toldWords a) reply)
-
--- what the core answers, and what its call leaves but for the reply
-pub record AnswerLeft : Type 0 where
-  pub answer : Answer
-  pub head : List ℕ
-  pub links : List ℕ
-  pub output : List ℕ
-
-abbrev pub answerLeft : Answer → List ℕ → List ℕ → List ℕ → AnswerLeft
-answerLeft a head links output = record { answer = a; head = head; links = links; output = output }
-
-unfoldable pub answeredOf : Call → List ℕ → List ℕ → List ℕ → AnswerLeft
-answeredOf r head links output =
-    let done = serveOf (headAt head) (linksAt links) r output in
-    answerLeft (done .answer) (keptHead (done .answer) head) (keptLinks (done .answer) (done .table) links) (done .octets)
-
 -- what the core's call left, in the caller's memory
 unfoldable pub handed : Served → List ℕ → List ℕ → List ℕ → Left
 handed done head links reply =
@@ -115,10 +95,6 @@ unfoldable pub advanceCall : ℕ → List ℕ → List ℕ → List ℕ → List
 advanceCall n head links output reply made =
     cond (isLent (length head) (length reply) && leb 1 (length made)) (advancedOf n head links output reply made)
     (advanceLeft (left short head links output reply) made)
-
--- n ticks that a call may make, each of which hands out nothing
-unfoldable pub quietBy : ℕ → List ℕ → List ℕ → ℕ → Bool
-quietBy n head links octets = cond (inReach n && hasRoom (linksIn (length links)) octets) (leb n (untilCall head links)) false
 
 -- a refusal of the reader's: nothing is changed, and nothing told
 unfoldable pub refusedOf : Reply → List ℕ → List ℕ → Told

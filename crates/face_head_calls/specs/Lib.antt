@@ -1,3 +1,4 @@
+pub mod Answered
 pub mod Calls
 pub mod Gate
 pub mod Lend

@@ -2,7 +2,8 @@
 ghost use mathlib.Core.Path.{_≡_};
 ghost use Prim.Native.Nat.{_≤_};
 ghost use lib.ListN.{getD, replicate};
-ghost use Rattle.face_head_calls.specs.Calls.{left, answerLeft, begunLeft, advanceLeft, told, isLent, laidHead, keptHead, begunHead, toldOf, answeredOf, refusedOf, servedOf, heardOf, begunOf, quietBy, advancedOf, advanceCall};
+ghost use Rattle.face_head_calls.specs.Answered.{answerLeft, toldOf, answeredOf, quietBy};
+ghost use Rattle.face_head_calls.specs.Calls.{left, begunLeft, advanceLeft, told, isLent, laidHead, keptHead, begunHead, refusedOf, servedOf, heardOf, begunOf, advancedOf, advanceCall};
 ghost use Rattle.face_head_calls.specs.Gate.{leaveOf, askedOf};
 ghost use Rattle.face_head_calls.specs.Lend.{keptOf, lendLeft, lendOf, clearLeft, clearOf};
 ghost use Rattle.face_head_pass.specs.Quiet.{untilCall};
@@ -13,12 +14,12 @@ ghost use Rattle.head_links.specs.Link.{idle};
 ghost use Rattle.face_words.specs.Words.{laid};
 use clock::Count;
 use clock::Quanta;
+use clock::Span;
 use face_words::SHORT;
 use frame::Address;
 use frame::Reply;
 use head_calls::Answer;
 use head_gating::Asked;
-use head_gating::Leave;
 use head_judging::Call;
 use head_links::Link;
 use head_state::Head;
@@ -239,17 +240,17 @@ pub fn begun(address: Address, head: &mut [u64], links: &mut [u64], reply: &mut 
 }
 
 // A grant is one word: its start above its length.
-fn leave_of(word: u64) -> Leave
+fn leave_of(word: u64) -> Span
     ensures { λ r. ⌜ r ≡ leaveOf word ⌝ }
 {
-    Leave {
+    Span {
         start: Count(face_words::upper(word)),
         length: Quanta(face_words::lower(word)),
     }
 }
 
 // A grant that isn't there is one of start 0, length 0.
-fn leave_at(grants: &[u64], i: usize) -> Leave
+fn leave_at(grants: &[u64], i: usize) -> Span
     ensures { λ r. ⌜ r ≡ leaveOf (getD (now (grants .entry)) i 0) ⌝ }
 {
     if i < grants.len() {

@@ -16,6 +16,7 @@ ghost use Rattle.face_words.specs.Words.{laid};
 use face_head::LinkWords;
 use face_words::least;
 use face_words::less;
+use frame::Address;
 use head_state::Head;
 
 // Words of a head, and of a link.
@@ -46,11 +47,10 @@ fn runs(left: u64, most: u64) -> bool
     (1 <= left) & (left <= most)
 }
 
-// Sixteen bits above the address, and the one that marks a group's, looked at together.
-fn individual(a: u64) -> bool
-    ensures { λ r. ⌜ r ≡ isIndividual (record { 0 = a }) ⌝ }
+fn individual(word: u64) -> bool
+    ensures { λ r. ⌜ r ≡ isIndividual (record { 0 = word }) ⌝ }
 {
-    (a >> 48 == 0) & ((a >> 40) % 2 == 0) & (0 < a)
+    frame_range::individual(Address(word))
 }
 
 fn words_at(links: &[u64], at: usize) -> LinkWords

@@ -19,8 +19,9 @@ use Rattle.box_calls.specs.Box.{soundOf, tickOf}
 use Rattle.box_calls.specs.declared.Advanced.{Advanced}
 use Rattle.box_calls.specs.declared.Answer.{Answer}
 use Rattle.box_calls.specs.declared.FloorBox.{FloorBox}
-use Rattle.box_laws.specs.Calls as core
-use Rattle.box_laws.specs.Calls.{Unchanged, refused-unchanged}
+use Rattle.box_laws.specs.Stated as core
+use Rattle.box_laws.specs.Calls.{refused-unchanged}
+use Rattle.box_laws.specs.Stated.{Unchanged}
 use Rattle.box_laws.specs.Outcome.{Outcome, unsound, beyond, refuses, makes, outcome}
 use Rattle.face_words.specs.Words.{laid}
 use Rattle.face_box_calls.specs.Calls.{Left, left, AdvanceLeft, advanceLeft, boxAt, isLent, boxCall, advanceCall}

@@ -12,18 +12,19 @@ use lib.Dec.{eqb, ltb}
 use lib.ListN.{length, take, drop, replicate, length-take, length-drop, length-map, take-append-drop}
 use Rattle.laws.specs.Cases.{either, decided}
 use Rattle.clock.specs.Numbers.{quantaOf}
+use Rattle.clock.specs.Spans.{none}
 use Rattle.frame.specs.Card.{numberOf}
 use Rattle.frame.specs.declared.Reply.the-variants.{Done}
 use Rattle.frame_reader.specs.Decode.{readOf}
-use Rattle.box_grants.specs.Listed.{none}
 use Rattle.box_calls.specs.Answer as answers
 use Rattle.box_calls.specs.Answer.{accepted}
 use Rattle.box_calls.specs.Box.{soundOf}
 use Rattle.box_calls.specs.Send.{fitsIn, sendOf}
 use Rattle.box_calls.specs.declared.Answer.{Answer}
 use Rattle.box_calls.specs.declared.FloorBox.{FloorBox}
-use Rattle.box_laws.specs.Calls as core
-use Rattle.box_laws.specs.Calls.{Call, answer, Outcome, unsound, refuses, accepts, outcome, Unchanged, refused-unchanged}
+use Rattle.box_laws.specs.Stated as core
+use Rattle.box_laws.specs.Calls.{Outcome, unsound, refuses, accepts, outcome, refused-unchanged}
+use Rattle.box_laws.specs.Stated.{Call, answer, Unchanged}
 use Rattle.face_words.specs.Laws.{same-is}
 use Rattle.face_words.specs.Words.{same}
 use Rattle.face_box.specs.Box.{entryOf, discoveryOf, lightOf, frontWords, frontOf, boxWords, boxOf, isClear, hasWords, isBox, nobody, boxIn}

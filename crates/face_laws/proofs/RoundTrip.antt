@@ -9,9 +9,9 @@ use native.Mathlib.Omega.{arith}
 use lib.ListN.{take, drop, replicate}
 use Rattle.clock.specs.declared.Quanta.{Quanta}
 use Rattle.clock.specs.declared.Timer.{Timer}
+use Rattle.clock.specs.Spans.{none}
+use Rattle.clock.specs.declared.Span.{Span}
 use Rattle.box_calls.specs.declared.FloorBox.{FloorBox}
-use Rattle.box_grants.specs.Listed.{none}
-use Rattle.box_grants.specs.declared.Entry.{Entry}
 use Rattle.box_light.specs.declared.Light.{Light}
 use Rattle.box_light.specs.declared.Light.the-variants.{Rest, Before, Random, Warming, Asking, Due, Lit, Open}
 use Rattle.box_registration.specs.declared.Registration.{Registration}
@@ -33,10 +33,10 @@ timer-back t h = rw (narrow-is (t .left) h)
 pub quanta-back : (q : Quanta) → QuantaFit q → quantaOf (q .0) ≡ q
 quanta-back q h = rw (narrow-is (q .0) h)
 
-entry-back : (e : Entry) → EntryFits e → entryOf (entryWord e) ≡ e
+entry-back : (e : Span) → EntryFits e → entryOf (entryWord e) ≡ e
 entry-back e h = rw (upper-joined (e .start .0) (e .length .0) h, lower-joined (e .start .0) (e .length .0) h)
 
-entries-back : (es : List Entry) → EntriesFit es → map entryOf (map entryWord es) ≡ es
+entries-back : (es : List Span) → EntriesFit es → map entryOf (map entryWord es) ≡ es
 entries-back [] h = refl
 entries-back (e ∷ es) h = rw (entry-back e (h .0), entries-back es (h .1))
 

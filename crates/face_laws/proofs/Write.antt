@@ -32,14 +32,16 @@ use Rattle.frame.specs.declared.Reply.the-variants.{Done}
 use Rattle.laws.specs.Cases.{either, decided}
 use Rattle.frame_range.specs.Fits.{fitsMessage}
 use Rattle.frame_range.specs.Laws.{valid-of}
-use Rattle.frame_reader.specs.Decode.{few, registerReqFlagOf, registerFlagOf, registerAckFlagOf, readOf}
+use Rattle.frame_reader.specs.Decode.{readOf}
+use Rattle.frame_reader.specs.Flags.{few, registerReqFlagOf, registerFlagOf, registerAckFlagOf}
 use Rattle.frame_reader.proofs.Back.{carried}
 use Rattle.frame_reader.proofs.Forth.{read-encode}
 use Rattle.frame_reader.proofs.Gate.{listed-few, listed-short}
 use Rattle.head_laws.specs.Pasted.{encode-length}
 use Rattle.face_words.specs.Laws.{same-is, same-self, upper-joined, lower-joined}
 use Rattle.face_frame.specs.Message.{kindOf, grantWord, fieldsOf, messageWords}
-use Rattle.face_frame.specs.Tells.{at, within, grantOf, grantsOf, bodyOf, messageOf, isMessage}
+use Rattle.face_frame.specs.Steps.{at}
+use Rattle.face_frame.specs.Tells.{within, grantOf, grantsOf, bodyOf, messageOf, isMessage}
 use Rattle.frame_writer.specs.Write.{writeOf}
 use Rattle.frame_writer.proofs.Page.{write-done}
 use Rattle.face_frame_read.specs.Read.{readLeft, readCall}

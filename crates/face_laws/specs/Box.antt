@@ -10,11 +10,11 @@ use denote.Ref.{RefT}
 use lib.ListN.{length, take, drop, replicate}
 use Rattle.clock.specs.declared.Quanta.{Quanta}
 use Rattle.clock.specs.declared.Timer.{Timer}
+use Rattle.clock.specs.Spans.{none}
+use Rattle.clock.specs.declared.Span.{Span}
 use Rattle.frame.specs.Card.{numberOf}
 use Rattle.frame_range.specs.Fits.{isIndividual}
 use Rattle.frame_reader.specs.Decode.{readOf}
-use Rattle.box_grants.specs.Listed.{none}
-use Rattle.box_grants.specs.declared.Entry.{Entry}
 use Rattle.box_light.specs.declared.Light.{Light}
 use Rattle.box_light.specs.declared.Light.the-variants.{Rest, Before, Random, Warming, Asking, Due, Lit, Open}
 use Rattle.box_calls.specs.Box.{soundOf, registerOf, deregisterOf, tickOf}
@@ -31,10 +31,10 @@ abbrev pub QuantaFit : Quanta → Type 0
 QuantaFit q = q .0 < 2 ^ 32
 
 -- a start stands above the length in their word, so the length is what must fit
-abbrev pub EntryFits : Entry → Type 0
+abbrev pub EntryFits : Span → Type 0
 EntryFits e = QuantaFit (e .length)
 
-abbrev pub EntriesFit : List Entry → Type 0
+abbrev pub EntriesFit : List Span → Type 0
 EntriesFit [] = Unit {0}
 EntriesFit (e ∷ es) = EntryFits e × EntriesFit es
 

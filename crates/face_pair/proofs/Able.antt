@@ -16,7 +16,7 @@ use Rattle.frame.specs.declared.Address.{Address}
 use Rattle.frame.specs.declared.Reply.the-variants.{Done}
 use Rattle.frame_reader.specs.Decode.{readOf}
 use Rattle.box_calls.specs.declared.FloorBox.{FloorBox}
-use Rattle.box_laws.specs.Calls as calls
+use Rattle.box_laws.specs.Stated as calls
 use Rattle.lent.specs.Folds.{places}
 use Rattle.head_links.specs.Link.{idle}
 use Rattle.head_links.specs.declared.Link.{Link}

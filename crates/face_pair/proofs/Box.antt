@@ -23,8 +23,9 @@ use Rattle.face_box.specs.Box.{boxWords}
 use Rattle.box_calls.specs.Box.{freshOf}
 use Rattle.box_calls.specs.declared.Answer.{Answer}
 use Rattle.box_calls.specs.declared.FloorBox.{FloorBox}
-use Rattle.box_laws.specs.Calls as calls
-use Rattle.box_laws.specs.Calls.{Call, answer, Outcome, unsound, refuses, accepts, outcome, refused-unchanged}
+use Rattle.box_laws.specs.Stated as calls
+use Rattle.box_laws.specs.Calls.{Outcome, unsound, refuses, accepts, outcome, refused-unchanged}
+use Rattle.box_laws.specs.Stated.{Call, answer}
 use Rattle.box_laws.specs.Frames.{CallTyped}
 use Rattle.face_words.specs.Laws.{laid-whole}
 use Rattle.face_words.specs.Words.{laid}

@@ -25,7 +25,7 @@ use Rattle.box_calls.specs.Turns.{boxTicks}
 use Rattle.box_calls.specs.declared.Advanced.{Advanced}
 use Rattle.box_calls.specs.declared.Answer.{Answer}
 use Rattle.box_calls.specs.declared.FloorBox.{FloorBox}
-use Rattle.box_laws.specs.Calls as calls
+use Rattle.box_laws.specs.Stated as calls
 use Rattle.box_laws.specs.Runs.{holds-sound}
 use Rattle.face_words.specs.Words.{laid}
 use Rattle.pair_demand.specs.Run as run

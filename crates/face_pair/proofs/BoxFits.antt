@@ -14,12 +14,13 @@ use Rattle.clock.specs.Numbers.{watchdog, periodic, wait, furthest, laserOn, qu
 use Rattle.clock.specs.Timers.{off, runs}
 use Rattle.clock.specs.declared.Quanta.{Quanta}
 use Rattle.clock.specs.declared.Timer.{Timer}
+use Rattle.clock.specs.Spans.{none}
+use Rattle.clock.specs.declared.Span.{Span}
 use Rattle.box_grants.specs.Activation.{holds}
 use Rattle.box_grants.specs.Keeps.{sound-parts}
 use Rattle.box_grants.specs.Laws.{Packs, packs-list}
-use Rattle.box_grants.specs.Listed.{none, listOf}
+use Rattle.box_grants.specs.Listed.{listOf}
 use Rattle.box_grants.specs.Sound.{inRange, soundOf as listSound}
-use Rattle.box_grants.specs.declared.Entry.{Entry}
 use Rattle.box_grants.specs.declared.GrantList.{GrantList}
 use Rattle.box_light.specs.Laws.{fits-in, served-in}
 use Rattle.box_light.specs.Light.{laserOnFor}
@@ -101,7 +102,7 @@ light-fits (Lit t n sync) s h =
 light-fits (Open t) s h = runs-fits t (65535 - laserOn) h (omega arith)
 
 -- the list
-range-fits : (l : List Entry) → inRange l ≡ true → EntriesFit l
+range-fits : (l : List Span) → inRange l ≡ true → EntriesFit l
 range-fits [] h = tt
 range-fits (e ∷ l) h =
     let p = and-eq-true-iff (leb (e .length .0) 65535) (inRange l) .0 h in
@@ -111,7 +112,7 @@ none-fit : (n : ℕ) → EntriesFit (replicate n none)
 none-fit zero = tt
 none-fit (suc n) = (omega arith, none-fit n)
 
-both-fit : (l r : List Entry) → EntriesFit l → EntriesFit r → EntriesFit (l ++ r)
+both-fit : (l r : List Span) → EntriesFit l → EntriesFit r → EntriesFit (l ++ r)
 both-fit [] r h k = k
 both-fit (e ∷ l) r h k = (h .0, both-fit l r (h .1) k)
 

@@ -26,7 +26,8 @@ use Rattle.box_telling.specs.declared.Sent.the-variants.{Nothing, Is}
 use Rattle.box_calls.specs.Answer.{messageOf, framed, accepted}
 use Rattle.box_calls.specs.declared.Answer.{Answer}
 use Rattle.box_calls.specs.declared.FloorBox.{FloorBox}
-use Rattle.box_laws.specs.Calls.{Call, answer, step, Outcome, unsound, refuses, accepts, outcome}
+use Rattle.box_laws.specs.Calls.{step, Outcome, unsound, refuses, accepts, outcome}
+use Rattle.box_laws.specs.Stated.{Call, answer}
 use Rattle.face_words.specs.Laws.{laid-over}
 use Rattle.face_words.specs.Words.{laid}
 use Rattle.face_box_calls.specs.Calls as face

@@ -16,6 +16,7 @@ use Rattle.clock.specs.Timers.{ticked}
 use Rattle.clock.specs.declared.Quanta.{Quanta}
 use Rattle.clock.specs.declared.Reach.{Reach}
 use Rattle.clock.specs.declared.Reach.the-variants.{Past, Ahead}
+use Rattle.clock.specs.declared.Span.{Span}
 use Rattle.frame.specs.Layout.{listed}
 use Rattle.frame.specs.Range.{BodyTyped}
 use Rattle.frame.specs.declared.Body.{Body}
@@ -29,7 +30,6 @@ use Rattle.box_grants.specs.Laws.{push-packed, ahead-shorter, Packs}
 use Rattle.box_grants.specs.Listed.{listOf, packed, pushed, chooseOf}
 use Rattle.box_grants.specs.declared.Chosen.{Chosen}
 use Rattle.box_grants.specs.declared.Chosen.the-variants.{Nothing, Due}
-use Rattle.box_grants.specs.declared.Entry.{Entry}
 use Rattle.box_grants.specs.declared.GrantList.{GrantList}
 use Rattle.box_light.specs.Light.{atRest}
 use Rattle.box_light.specs.Tick.{tickOf as lightTick}
@@ -54,7 +54,8 @@ use Rattle.box_hearing.specs.Register.{registerOf}
 use Rattle.box_calls.specs.Answer.{accepted}
 use Rattle.box_calls.specs.declared.Answer.{Answer}
 use Rattle.box_calls.specs.declared.FloorBox.{FloorBox}
-use Rattle.box_laws.specs.Calls.{Call, register, deregister, hear, tick, answer, step, Outcome, unsound, refuses, accepts, outcome}
+use Rattle.box_laws.specs.Calls.{step, Outcome, unsound, refuses, accepts, outcome}
+use Rattle.box_laws.specs.Stated.{Call, register, deregister, hear, tick, answer}
 use Rattle.box_laws.specs.Frames.{CallTyped}
 use Rattle.pair_box.proofs.Activated.{activate-leaves}
 
@@ -63,17 +64,17 @@ pub record Neat (p : Processes) : Type 0 where
   pub list : Packs (p .list)
 
 -- the list
-packs-of : (l : List Entry) → length l ≤ 16 → Packs (packed l)
+packs-of : (l : List Span) → length l ≤ 16 → Packs (packed l)
 packs-of l h = record { list = l; is = refl; room = h }
 
 packs-none : Packs (packed [])
 packs-none = packs-of [] (omega arith)
 
-push-full : (l : List Entry) (e : Entry) → 16 ≤ length l → pushed (packed l) e ≡ packed l
+push-full : (l : List Span) (e : Span) → 16 ≤ length l → pushed (packed l) e ≡ packed l
 unfolding pushed
 push-full l e h = rw (le-ltb (length l) 16 h)
 
-push-packs : (l : List Entry) (e : Entry) → length l ≤ 16 → Packs (pushed (packed l) e)
+push-packs : (l : List Span) (e : Span) → length l ≤ 16 → Packs (pushed (packed l) e)
 push-packs l e h =
     ⊎-elim
     (λ (k : length l < 16).
@@ -82,11 +83,11 @@ push-packs l e h =
     (λ (k : 16 ≤ length l). subst Packs (sym (push-full l e k)) (packs-of l h))
     (cut (length l) 16)
 
-pushes-pack : (es : List Entry) (s : GrantList) → Packs s → Packs (foldl pushed s es)
+pushes-pack : (es : List Span) (s : GrantList) → Packs s → Packs (foldl pushed s es)
 pushes-pack [] s w = w
 pushes-pack (e ∷ es) s w = pushes-pack es (pushed s e) (subst (λ (x : GrantList). Packs (pushed x e)) (sym (w .is)) (push-packs (w .list) e (w .room)))
 
-without-packs : (s : GrantList) (e : Entry) → Packs (packed (remove e (listOf s)))
+without-packs : (s : GrantList) (e : Span) → Packs (packed (remove e (listOf s)))
 without-packs s e = packs-of (remove e (listOf s)) (omega (arith, listed-room s, remove-shorter e (listOf s)))
 
 choose-packs : (now need : ℕ) (s : GrantList) → Packs (chooseOf now need s .list)
@@ -96,11 +97,11 @@ choose-packs now need s =
     packs-of (settle (length l) now need l .list) (omega (arith, settle-shorter now need (length l) l, ahead-shorter now (listOf s), listed-room s))
 
 -- activation
-begin-packs : (p : Processes) (e : Entry) (sync wait : Quanta) → Packs (p .list) → Packs (begin p e sync wait .list)
+begin-packs : (p : Processes) (e : Span) (sync wait : Quanta) → Packs (p .list) → Packs (begin p e sync wait .list)
 unfolding begin lightUp
 begin-packs p e sync wait w = either (λ (q : Processes). Packs (q .list)) (eqb (wait .0) 0) _ _ (λ _. without-packs (p .list) e) (λ _. w)
 
-head-packs : (r : Reach) (p : Processes) (e : Entry) (sync : Quanta) → Packs (p .list) → Packs (headFor p e sync r .list)
+head-packs : (r : Reach) (p : Processes) (e : Span) (sync : Quanta) → Packs (p .list) → Packs (headFor p e sync r .list)
 head-packs Past p e sync w = w
 head-packs (Ahead wait) p e sync w = begin-packs p e sync wait w
 

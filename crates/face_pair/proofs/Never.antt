@@ -21,8 +21,9 @@ use Rattle.head_calls.specs.Fresh.{freshOf}
 use Rattle.box_calls.specs.Answer.{accepted}
 use Rattle.box_calls.specs.declared.Answer.{Answer}
 use Rattle.box_calls.specs.declared.FloorBox.{FloorBox}
-use Rattle.box_laws.specs.Calls as calls
-use Rattle.box_laws.specs.Calls.{Call, answer, Outcome, unsound, refuses, accepts, outcome}
+use Rattle.box_laws.specs.Stated as calls
+use Rattle.box_laws.specs.Calls.{Outcome, unsound, refuses, accepts, outcome}
+use Rattle.box_laws.specs.Stated.{Call, answer}
 use Rattle.box_laws.specs.Runs.{holds-sound}
 use Rattle.head_laws.specs.Fresh.{fresh-range, fresh-done}
 use Rattle.head_laws.specs.Runs.{run-never-unsound}

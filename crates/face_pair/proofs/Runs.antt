@@ -23,8 +23,8 @@ use Rattle.box_calls.specs.declared.Advanced.{Advanced}
 use Rattle.box_calls.specs.declared.Answer.{Answer}
 use Rattle.box_calls.specs.declared.FloorBox.{FloorBox}
 use Rattle.box_laws.specs.Advance.{run-advance}
-use Rattle.box_laws.specs.Calls as box-calls
-use Rattle.box_laws.specs.Calls.{Call, answer}
+use Rattle.box_laws.specs.Stated as box-calls
+use Rattle.box_laws.specs.Stated.{Call, answer}
 use Rattle.box_laws.specs.Frames.{CallTyped}
 use Rattle.box_laws.specs.Runs as core
 use Rattle.head_judging.specs.declared.Call.{Call as HeadCall}
@@ -64,7 +64,7 @@ module _ (A : Address) where
   -- what is kept: the words of a box that a run of the core reaches
   record Holds (block : List ℕ) : Type 0 where
     good : boxes.Good A block
-    reached : core.Run (boxAt block)
+    reached : box-calls.Run (boxAt block)
 
   module _ (block : List ℕ) (k : Holds block) where
     abbrev b : FloorBox
@@ -82,22 +82,22 @@ module _ (A : Address) where
         ⊎-elim
         (λ (e : lefts.lent (answer c) block l ≡ true).
         let a = boxes.lent-as A c block l t (k .good) e in
-        record { good = a .good; reached = subst core.Run (sym (a .next)) (core.calls b (k .reached) c) })
+        record { good = a .good; reached = subst box-calls.Run (sym (a .next)) (box-calls.calls b (k .reached) c) })
         (λ (e : lefts.lent (answer c) block l ≡ false). same-holds _ (ap (λ (y : Left). y .block) (lefts.short (answer c) block l e)))
         (decided (lefts.lent (answer c) block l))
 
     -- octets
-    heard-run : (x : Option Message) (random : ℕ) → core.Run (end.heardIn hearOf x b random .next)
+    heard-run : (x : Option Message) (random : ℕ) → box-calls.Run (end.heardIn hearOf x b random .next)
     heard-run none random = k .reached
-    heard-run (some m) random = core.calls b (k .reached) (box-calls.hear m random)
+    heard-run (some m) random = box-calls.calls b (k .reached) (box-calls.hear m random)
 
     octets-hold : (os : List ℕ) (random : ℕ) (l : box.Lent) → areOctets os ≡ true → Holds (lefts.got (heardOf os random) block l .block)
     octets-hold os random l h =
         ⊎-elim
         (λ (a : As (BoxFace A) (boxes.Good A) (box.answered (lefts.got (heardOf os random) block l)) (BoxEnd A .hear b random os)).
-        record { good = a .good; reached = subst core.Run (sym (a .next)) (heard-run (messageIn os) random) })
+        record { good = a .good; reached = subst box-calls.Run (sym (a .next)) (heard-run (messageIn os) random) })
         (λ (u : Untouched (BoxFace A) (boxes.Good A) block (box.answered (lefts.got (heardOf os random) block l))).
-        record { good = u .good; reached = subst core.Run (sym (u .next)) (k .reached) })
+        record { good = u .good; reached = subst box-calls.Run (sym (u .next)) (k .reached) })
         (boxes.octets-out A block random l os h (k .good))
 
     fresh-holds : (l : box.Lent) → Holds (boxes.made A block l .block)
@@ -106,7 +106,7 @@ module _ (A : Address) where
         (λ (e : boxes.enough A block l ≡ true).
         record {
           good = boxes.made-good A block l e individual;
-          reached = subst core.Run (sym (boxes.made-fresh A block l e individual .1)) (core.fresh A individual);
+          reached = subst box-calls.Run (sym (boxes.made-fresh A block l e individual .1)) (box-calls.fresh A individual);
         })
         (λ (e : boxes.enough A block l ≡ false). same-holds _ (ap (λ (y : Left). y .block) (boxes.made-short A block l e)))
         (decided (boxes.enough A block l))
@@ -144,7 +144,7 @@ module _ (A : Address) where
           ⊎-elim
           (λ (i : inReach n ≡ true).
           let t = advances.advance-there A block (k .good) l e n i made worded in
-          record { good = t .0; reached = subst core.Run (sym (t .1)) (run-advance (k .reached) n i .0) })
+          record { good = t .0; reached = subst box-calls.Run (sym (t .1)) (run-advance (k .reached) n i .0) })
           (λ (i : inReach n ≡ false). same-holds _ (advance-same e i))
           (decided (inReach n)))
           (λ (e : lent ≡ false). same-holds _ (ap (λ (y : AdvanceLeft). y .call .block) (not-enough e)))
@@ -246,13 +246,13 @@ module _ (A : Address) where
   block-holds (runs.begun old l z) =
       let s = boxes.fresh-stands A old l z in
       let i : isIndividual A ≡ true = ap isIndividual (sym (s .0 .ok .address)) ∙ s .0 .ok .holds .address in
-      record { good = s .0; reached = subst core.Run (sym (s .1 .1)) (core.fresh A i) }
+      record { good = s .0; reached = subst box-calls.Run (sym (s .1 .1)) (box-calls.fresh A i) }
   block-holds (runs.calls block u c h) = call-holds block (block-holds u) c h
   block-holds (runs.moves block u behind) =
       let k = block-holds u in
       record {
         good = boxes.moved-good A block behind (k .good);
-        reached = subst core.Run (sym (boxes.moved-box A block behind (k .good))) (k .reached);
+        reached = subst box-calls.Run (sym (boxes.moved-box A block behind (k .good))) (k .reached);
       }
 
   pub box-runs : BoxRuns A

@@ -23,7 +23,8 @@ use Rattle.box_calls.specs.Answer.{accepted}
 use Rattle.box_calls.specs.Box.{tickOf}
 use Rattle.box_calls.specs.declared.Answer.{Answer}
 use Rattle.box_calls.specs.declared.FloorBox.{FloorBox}
-use Rattle.box_laws.specs.Calls.{tick, Outcome, unsound, refuses, accepts, outcome}
+use Rattle.box_laws.specs.Calls.{Outcome, unsound, refuses, accepts, outcome}
+use Rattle.box_laws.specs.Stated.{tick}
 use Rattle.box_laws.specs.Tick.{Says, bell-says}
 use Rattle.pair_box.specs.End.{stateOf}
 use Rattle.pair_box.proofs.Activated.{activate-leaves}

@@ -16,7 +16,7 @@ use Rattle.pair_wire.specs.Restarts.{downRestarts, upRestarts}
 use Rattle.pair_demand.specs.Run as run
 use Rattle.pair_demand.specs.Run.{Holds, HasRegistered, Moment, Event, both-tick, after, Allowed, play, Lawful, Start, Span, first, last}
 use Rattle.pair_demand.proofs.Falls.{Oks, ok-step}
-use Rattle.box_laws.specs.Calls as calls
+use Rattle.box_laws.specs.Stated as calls
 use Rattle.pair_box.proofs.Exact.{tick-done}
 use Rattle.face_head.specs.Laws.{length-links}
 use Rattle.face_head.specs.Table.{linksIn, linksAt}

@@ -14,7 +14,7 @@ use Rattle.box_calls.specs.Advance.{advanceOf}
 use Rattle.box_calls.specs.Box.{freshOf, registerOf, deregisterOf, tickOf}
 use Rattle.box_calls.specs.declared.Answer.{Answer}
 use Rattle.box_calls.specs.declared.FloorBox.{FloorBox}
-use Rattle.box_laws.specs.Runs as core
+use Rattle.box_laws.specs.Stated as core
 use Rattle.face_box.specs.Box.{boxWords}
 use Rattle.head_judging.specs.declared.Call.{Call}
 use Rattle.frame_reader.specs.Decode.{readOf}

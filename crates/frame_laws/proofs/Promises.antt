@@ -3,10 +3,6 @@
 use Prim.Native.Nat.{ℕ, _+_}
 use mathlib.Core.Path.{_≡_, sym, ap, _∙_}
 use mathlib.Core.List.{List}
-use borrow.Fn.Kinds.{Dens, endedOf}
-use contract.Lifetimes.{Lfts}
-use denote.Ref.{now}
-use denote.Triple.Clauses.{AtExit}
 use lib.ListN.{length}
 use Rattle.octets.specs.Octets.{Octets}
 use Rattle.frame.specs.Layout.{bodyOctets, zeroPad}
@@ -19,27 +15,11 @@ use Rattle.frame.specs.declared.Message.{Message}
 use Rattle.frame.specs.declared.Reading.{Reading}
 use Rattle.frame.specs.declared.Reply.the-variants.{Done}
 use Rattle.frame.specs.declared.Writing.{Writing}
-use Rattle.frame_reader.proofs.read.Kinds as read-kinds
-use Rattle.frame_reader.proofs.read.Reads as read
-use Rattle.frame_writer.proofs.write.Kinds as write-kinds
-use Rattle.frame_writer.proofs.write.Reads as write
 use Rattle.frame_reader.proofs.Forth.{read-encode}
 use Rattle.frame_reader.proofs.Back.{carried}
 use Rattle.frame_reader.proofs.Table.{reads, reads-only}
 use Rattle.frame_writer.proofs.Page.{write-done, writes, writes-only}
-
--- r is an answer that the promise of `read` allows to a lent slice of the octets l
-pub record Read (l : List ℕ) (r : Reading) : Type 1 where
-  pub κs : Lfts 1
-  pub args : Dens κs read-kinds.ps
-  pub lent : now (args .0) ≡ l
-  pub exit : AtExit (endedOf 1 read-kinds.ps read-kinds.r) κs
-  pub promised : read.Post κs args r exit
-
--- w is an answer that the promise of `write` allows to the message m
-pub record Wrote (m : Message) (w : Writing) : Type 0 where
-  pub exit : AtExit (endedOf 0 write-kinds.ps write-kinds.r) tt
-  pub promised : write.Post tt (m, tt) w exit
+use Rattle.frame_laws.proofs.Allowed.{Read, Wrote}
 
 read-is : {l : List ℕ} {r : Reading} → Read l r → r ≡ readOf l
 read-is p = p .promised ∙ ap readOf (p .lent)

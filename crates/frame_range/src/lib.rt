@@ -16,12 +16,12 @@ pub fn address(a: Address) -> bool
     a.0 <= largest.0
 }
 
-// An own address, or a link's: not zero, and no group's, whose first octet is odd.
+// An own address, or a link's: not zero, and no group's, whose first octet is odd. The bits above the address are looked at like that octet's.
 pub fn individual(a: Address) -> bool
     ensures { λ r. ⌜ r ≡ isIndividual a ⌝ }
 {
     let n = a.0;
-    address(a) & (0 < n) & ((n >> 40) % 2 == 0)
+    (n >> 48 == 0) & ((n >> 40) % 2 == 0) & (0 < n)
 }
 
 fn grant(g: Grant) -> bool

@@ -16,7 +16,8 @@ use Rattle.frame.specs.Card.{numberOf}
 use Rattle.frame.specs.Layout.{headerOf, frameOf, gateOctets, registerReqFlag, registerFlag, registerAckFlag, opcodeOf, bodyOctets, encode, zeroPad}
 use Rattle.frame.specs.Range.{BodyFits}
 use Rattle.frame.specs.Reading.{oneOf, gateInRange, bodyInRange, Carries}
-use Rattle.frame_reader.specs.Decode.{bit, quantaAt, grantAt, few, gateOf, gateAt, registerReqFlagOf, registerFlagOf, registerAckFlagOf, registerReqAt, registerAt, registerAckAt, bodyAt, messageAt, readControl, readOf}
+use Rattle.frame_reader.specs.Decode.{bit, quantaAt, grantAt, gateOf, gateAt, registerReqAt, registerAt, registerAckAt, bodyAt, messageAt, readControl, readOf}
+use Rattle.frame_reader.specs.Flags.{few, registerReqFlagOf, registerFlagOf, registerAckFlagOf}
 use Rattle.frame_reader.proofs.Forth.{body-short, reads-padded}
 use Rattle.frame_reader.proofs.Gate.{few-listed, grantsFrom, four-from, take-from, length-from, fits-from, octets-from, Ranged, ranged, octet-back}
 use Rattle.frame.specs.declared.RegisterReqFlag.{RegisterReqFlag}

@@ -12,7 +12,8 @@ use Rattle.octets.specs.Laws.{value-bytes}
 use Rattle.frame.specs.Layout.{headerOf, listed, firstOctet, perGrant, registerReqFlag, registerFlag, registerAckFlag, opcodeOf, bodyOctets, encode}
 use Rattle.frame.specs.Range.{GrantFits, GrantsFit, BodyFits, Valid}
 use Rattle.frame.specs.Reading.{oneOf, bodyInRange}
-use Rattle.frame_reader.specs.Decode.{bit, grantAt, quantaAt, few, gateOf, gateAt, registerReqFlagOf, registerFlagOf, registerAckFlagOf, registerReqAt, registerAt, registerAckAt, bodyAt, messageAt, readControl, readOf}
+use Rattle.frame_reader.specs.Decode.{bit, grantAt, quantaAt, gateOf, gateAt, registerReqAt, registerAt, registerAckAt, bodyAt, messageAt, readControl, readOf}
+use Rattle.frame_reader.specs.Flags.{few, registerReqFlagOf, registerFlagOf, registerAckFlagOf}
 use Rattle.frame_reader.proofs.Gate.{listed-few, listed-short, length-grants, four-from, take-from, reads-from, octet-number, octet-discovery, octet-force, octet-fits, octet-in-range}
 use Rattle.clock.specs.declared.Quanta.{Quanta}
 use Rattle.frame.specs.declared.Grant.{Grant}

@@ -18,7 +18,8 @@ use Rattle.octets.specs.Laws.{value-bytes, bytes-field, field-below, join}
 use Rattle.frame.specs.Layout.{listed, forceBits, firstOctet, grantOctets, perGrant}
 use Rattle.frame.specs.Range.{GrantFits, GrantsFit}
 use Rattle.frame.specs.Reading.{gateInRange}
-use Rattle.frame_reader.specs.Decode.{bit, grantAt, few}
+use Rattle.frame_reader.specs.Decode.{bit, grantAt}
+use Rattle.frame_reader.specs.Flags.{few}
 use Rattle.frame.specs.declared.Grant.{Grant}
 use Rattle.frame.specs.declared.Grants.{Grants}
 use Rattle.frame.specs.declared.Grants.the-variants.{None, One, Two, Three, Four}

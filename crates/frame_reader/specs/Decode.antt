@@ -10,16 +10,12 @@ use Rattle.octets.specs.Octets.{fieldOf}
 use Rattle.frame.specs.Reading.{bodyInRange, refusal}
 use Rattle.clock.specs.declared.Quanta.{Quanta}
 use Rattle.frame.specs.declared.Grant.{Grant}
-use Rattle.frame.specs.declared.Grants.{Grants}
-use Rattle.frame.specs.declared.Grants.the-variants.{None, One, Two, Three, Four}
-use Rattle.frame.specs.declared.RegisterReqFlag.{RegisterReqFlag}
-use Rattle.frame.specs.declared.RegisterFlag.{RegisterFlag}
-use Rattle.frame.specs.declared.RegisterAckFlag.{RegisterAckFlag}
 use Rattle.frame.specs.declared.Body.{Body}
 use Rattle.frame.specs.declared.Body.the-variants.{Gate, Discovery, Report, RegisterReq, Register, RegisterAck}
 use Rattle.frame.specs.declared.Message.{Message}
 use Rattle.frame.specs.declared.Reading.{Reading}
 use Rattle.frame.specs.declared.Reply.the-variants.{Done, Size, Kind, Opcode, Range}
+use Rattle.frame_reader.specs.Flags.{few, registerReqFlagOf, registerFlagOf, registerAckFlagOf}
 
 -- the bit of the octet f that counts p
 abbrev pub bit : ℕ → ℕ → Bool
@@ -31,14 +27,6 @@ quantaAt l a = record { 0 = fieldOf l a 2 }
 
 unfoldable pub grantAt : List ℕ → ℕ → Bool → Grant
 grantAt l a force = record { start = record { 0 = fieldOf l a 4 }; length = quantaAt l (a + 4); force = force }
-
--- at most four grants
-abbrev pub few : List Grant → Grants
-few [] = None
-few (a ∷ []) = One a
-few (a ∷ b ∷ []) = Two a b
-few (a ∷ b ∷ c ∷ []) = Three a b c
-few (a ∷ b ∷ c ∷ d ∷ _) = Four a b c d
 
 -- a GATE whose first octet is f: a, b, c and d stand where its grants may, and sync where its sync time may
 unfoldable pub gateOf : ℕ → Grant → Grant → Grant → Grant → Quanta → Body
@@ -53,20 +41,6 @@ gateAt l =
     (grantAt l 33 (bit f 64))
     (grantAt l 39 (bit f 128))
     (quantaAt l 27)
-
--- the flags, of numbers in range
-unfoldable pub registerReqFlagOf : ℕ → RegisterReqFlag
-registerReqFlagOf f = cond (eqb f 1) RegisterReqFlag.Register RegisterReqFlag.Deregister
-
-unfoldable pub registerFlagOf : ℕ → RegisterFlag
-registerFlagOf f =
-    cond (eqb f 1) RegisterFlag.Reregister
-    (cond (eqb f 2) RegisterFlag.Deregister
-    (cond (eqb f 3) RegisterFlag.Ack
-    RegisterFlag.Nack))
-
-unfoldable pub registerAckFlagOf : ℕ → RegisterAckFlag
-registerAckFlagOf f = cond (eqb f 0) RegisterAckFlag.Nack RegisterAckFlag.Ack
 
 unfoldable pub registerReqAt : List ℕ → Body
 registerReqAt l = RegisterReq (registerReqFlagOf (fieldOf l 20 1)) (fieldOf l 21 1)

@@ -3,20 +3,20 @@
 use Prim.Native.Nat.{ℕ, _/_, _%_}
 use mathlib.Core.Bool.{Bool, true, cond, _&&_}
 use lib.Dec.{eqb, ltb}
+use Rattle.clock.specs.declared.Span.{Span}
 use Rattle.frame.specs.Layout.{listed}
 use Rattle.frame.specs.declared.Grant.{Grant}
 use Rattle.frame.specs.declared.Grants.{Grants}
 use Rattle.frame.specs.declared.Grants.the-variants.{None, One, Two, Three, Four}
 use Rattle.frame_range.specs.Fits.{fitsAll}
-use Rattle.head_gating.specs.declared.Leave.{Leave}
 use Rattle.head_gating.specs.declared.Asked.{Asked}
 
 -- R172: the bit of that worth in the force octet
 abbrev pub bitOf : ℕ → ℕ → Bool
 bitOf force worth = eqb (force / worth % 2) 1
 
-abbrev pub grantOf : Leave → Bool → Grant
-grantOf l force = record { start = l .start; length = l .length; force = force }
+abbrev pub grantOf : Span → Bool → Grant
+grantOf s force = record { start = s .start; length = s .length; force = force }
 
 -- the grant at each place, with its force bit
 abbrev pub first : Asked → Grant

@@ -1,37 +1,29 @@
 // What a gate request asks for: a number of grants, the first four of them, and force bits as an octet.
 ghost use mathlib.Core.Path.{_≡_};
 ghost use Rattle.head_gating.specs.Asked.{grantOf, first, second, third, fourth, grantsOf, allowed, fits};
-use clock::Count;
-use clock::Quanta;
+use clock::Span;
 use frame::Grant;
 use frame::Grants;
-
-pub struct Leave {
-    pub start: Count,
-    pub length: Quanta,
-}
 
 // Of more than four grants only the first four are handed in; those beyond the number asked for are not judged.
 pub struct Asked {
     pub number: usize,
-    pub first: Leave,
-    pub second: Leave,
-    pub third: Leave,
-    pub fourth: Leave,
+    pub first: Span,
+    pub second: Span,
+    pub third: Span,
+    pub fourth: Span,
     pub force: u8,
 }
 
-impl Leave {
-    fn granted(self, force: bool) -> Grant
-        ensures { λ r. ⌜ r ≡ grantOf self force ⌝ }
-    {
-        let start = self.start;
-        let length = self.length;
-        Grant {
-            start,
-            length,
-            force,
-        }
+fn granted(span: Span, force: bool) -> Grant
+    ensures { λ r. ⌜ r ≡ grantOf span force ⌝ }
+{
+    let start = span.start;
+    let length = span.length;
+    Grant {
+        start,
+        length,
+        force,
     }
 }
 
@@ -62,29 +54,25 @@ impl Asked {
     fn first_grant(self) -> Grant
         ensures { λ r. ⌜ r ≡ first self ⌝ }
     {
-        let leave = self.first;
-        leave.granted(self.force % 2 == 1)
+        granted(self.first, self.force % 2 == 1)
     }
 
     fn second_grant(self) -> Grant
         ensures { λ r. ⌜ r ≡ second self ⌝ }
     {
-        let leave = self.second;
-        leave.granted(self.force / 2 % 2 == 1)
+        granted(self.second, self.force / 2 % 2 == 1)
     }
 
     fn third_grant(self) -> Grant
         ensures { λ r. ⌜ r ≡ third self ⌝ }
     {
-        let leave = self.third;
-        leave.granted(self.force / 4 % 2 == 1)
+        granted(self.third, self.force / 4 % 2 == 1)
     }
 
     fn fourth_grant(self) -> Grant
         ensures { λ r. ⌜ r ≡ fourth self ⌝ }
     {
-        let leave = self.fourth;
-        leave.granted(self.force / 8 % 2 == 1)
+        granted(self.fourth, self.force / 8 % 2 == 1)
     }
 
     // As many of them as are asked for, each with its force bit.

@@ -2,7 +2,7 @@
 -- Assumes nothing.
 use Prim.Native.Nat.{ℕ, zero, suc, _+_, _-_, _<_}
 use mathlib.Core.Path.{_≡_, refl, sym, ap, _∙_}
-use mathlib.Core.Bool.{true}
+use mathlib.Core.Bool.{true, false}
 use mathlib.Core.List.{List, [], _∷_, _++_, append-assoc}
 use mathlib.Core.Logic.{⊎-elim, _≢_}
 use native.Mathlib.Omega.{arith}
@@ -18,6 +18,7 @@ use Rattle.head_state.specs.Head.{tickOf as headTick}
 use Rattle.head_links.specs.Steps.{withWatchdog, withPeriodic, still, gated}
 use Rattle.head_links.specs.Tick.{tickPeriodic, tickWatchdog, tickIn, tickOf}
 use Rattle.head_links.specs.declared.Link.{Link}
+use Rattle.head_links.specs.declared.Sent.the-variants.{Nothing}
 use Rattle.head_links.specs.declared.State.{State}
 use Rattle.head_links.specs.declared.Stepped.{Stepped}
 use Rattle.head_survey.specs.Facts.{linkFrom}
@@ -26,8 +27,7 @@ use Rattle.head_table.specs.Output.{messageOf}
 use Rattle.head_table.specs.declared.Event.{Event}
 use Rattle.head_table.specs.declared.Sender.{Sender}
 use Rattle.head_judging.specs.declared.Call.{Call}
-use Rattle.head_laws.specs.Does.{from}
-use Rattle.head_laws.specs.Frames.{sentBy, linkFrames}
+use Rattle.head_laws.specs.Stated.{sentBy, linkFrames, from}
 use Rattle.head_laws.specs.Numbered.{Has, held-has}
 use Rattle.head_laws.specs.Periodic.{Gates, restarted, GateFires, ticksOn, Comes, GateComes, Among, GateSent}
 use Rattle.head_laws.specs.Refusals.{call-accepted}
@@ -68,51 +68,55 @@ passed-gates n l g =
 last-again : (l : Link) → Gates 1 l → 1 + periodic < l .watchdog .left → Gates periodic (restarted l)
 last-again l g w = record { registered = g .registered; due = refl; watched = omega arith }
 
+-- the ticks after one tick
+ticks-after : (k : ℕ) (l m : Link) (port : ℕ) → tickOf l port .link ≡ m → ticksOn (suc k) l port ≡ ticksOn k m port
+ticks-after k l m port e = ap (λ (x : Link). ticksOn k x port) e
+
 pub gate-comes : GateComes
-unfolding GateComes
+unfolding GateComes GateFires
 gate-comes zero l port g =
     let e = gate-fires l port g in
     record {
       silent = λ k h. absurd (omega arith);
       fires = ap (λ (s : Stepped). s .sent) e;
-      again = λ w. rw e (last-again l g w);
+      again = λ w. rw (ticks-after 0 l (restarted l) port (ap (λ (s : Stepped). s .link) e)) (last-again l g w);
     }
 gate-comes (suc n) l port g =
     let e = gate-waits n l port g in
+    let on : (k : ℕ) → ticksOn (suc k) l port ≡ ticksOn k (passed l) port = λ k. ticks-after k l (passed l) port (ap (λ (s : Stepped). s .link) e) in
     let c = gate-comes n (passed l) port (passed-gates n l g) in
     record {
-      silent = silent-from e c;
-      fires = rw e (c .fires);
-      again = λ w. rw e (c .again (omega arith));
+      silent = silent-from (ap (λ (s : Stepped). s .sent) e) on c;
+      fires = rw (on n) (c .fires);
+      again = λ w. rw (on (suc n)) (c .again (omega arith));
     }
   where
-    silent-from : tickOf l port ≡ still (passed l) → Comes n (passed l) port → (k : ℕ) → k < suc n → tickOf (ticksOn k l port) port .sent ≡ still l .sent
-    silent-from e c zero h = ap (λ (s : Stepped). s .sent) e
-    silent-from e c (suc k) h = rw e (c .silent k (omega arith))
+    silent-from : tickOf l port .sent ≡ Nothing → ((k : ℕ) → ticksOn (suc k) l port ≡ ticksOn k (passed l) port) → Comes n (passed l) port
+        → (k : ℕ) → k < suc n → tickOf (ticksOn k l port) port .sent ≡ Nothing
+    silent-from e on c zero h = e
+    silent-from e on c (suc k) h = rw (on k) (c .silent k (omega arith))
 
 -- in the table: what a link sends is among what all send
+among-first : (m : Message) (ms ns : List Message) → ms ≡ m ∷ [] → Among m (ms ++ ns)
+among-first m ms ns e = record { before = []; after = ns; stands = rw e }
+
+among-later : (m : Message) (ms ns : List Message) → Among m ns → Among m (ms ++ ns)
+among-later m ms ns a =
+    record { before = ms ++ a .before; after = a .after; stands = rw (a .stands) (sym (append-assoc ms (a .before) (m ∷ a .after))) }
+
 tick-among : (s : Sender) (m : Message) (n k : ℕ) (xs : List Link) → Has k xs n → sentBy s (tickOf (linkFrom n k xs) (portOf n) .sent) ≡ m ∷ []
     → Among m (linkFrames Event.Tick s k xs)
 tick-among s m n k [] has e = absurd (omega arith)
 tick-among s m n k (x ∷ xs) has e =
     ⊎-elim
-    (λ (t : eqb k n ≡ true).
-    let is : k ≡ n = eqb-true k n t in
-    let own : sentBy s (tickOf x (portOf k) .sent) ≡ m ∷ [] = rw (is, t) at e in
-    record { before = []; after = linkFrames Event.Tick s (suc k) xs; stands = ap (λ (ms : List Message). ms ++ linkFrames Event.Tick s (suc k) xs) own })
-    (λ t.
+    (λ (t : eqb k n ≡ true). among-first m (sentBy s (tickOf x (portOf k) .sent)) (linkFrames Event.Tick s (suc k) xs) (rw (eqb-true k n t) (rw t at e)))
+    (λ (t : eqb k n ≡ false).
     let d : k ≢ n = eqb-false k n t in
-    let c = tick-among s m n (suc k) xs (omega arith, omega arith) (rw t at e) in
-    let mine = sentBy s (tickOf x (portOf k) .sent) in
-    record {
-      before = mine ++ c .before;
-      after = c .after;
-      stands = ap (λ (ms : List Message). mine ++ ms) (c .stands) ∙ sym (append-assoc mine (c .before) (m ∷ c .after));
-    })
+    among-later m (sentBy s (tickOf x (portOf k) .sent)) (linkFrames Event.Tick s (suc k) xs) (tick-among s m n (suc k) xs (omega arith, omega arith) (rw t at e)))
     (decided (eqb k n))
 
 pub gate-sent : GateSent
-unfolding GateSent
+unfolding GateSent GateFires
 gate-sent h xs os n d g =
     let l = linkFrom n 1 xs in
     let e = gate-fires l (portOf n) g in

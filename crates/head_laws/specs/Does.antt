@@ -20,7 +20,6 @@ use Rattle.head_links.specs.declared.Sent.{Sent}
 use Rattle.head_survey.specs.Facts.{isFew, linkFrom, soundTable}
 use Rattle.head_table.specs.Events.{portOf, drivenOf}
 use Rattle.head_table.specs.declared.Event.{Event}
-use Rattle.head_table.specs.declared.Sender.{Sender}
 use Rattle.head_judging.specs.Judge.{lookOf}
 use Rattle.head_plans.specs.declared.Notice.{Notice}
 use Rattle.head_plans.specs.declared.Plan.{Plan}
@@ -29,14 +28,10 @@ use Rattle.head_calls.specs.Serve.{doneOf, serveOf}
 use Rattle.head_laws.specs.Calls.{planned, known}
 use Rattle.head_laws.specs.Events.{table-parts, nothing-keeps}
 use Rattle.head_laws.specs.Frames.{nothing-frames}
-use Rattle.head_laws.specs.Stated.{sentBy, framesOf, callFrames}
+use Rattle.head_laws.specs.Stated.{sentBy, framesOf, callFrames, from}
 use Rattle.head_laws.specs.Numbered.{Has, held-has, changed-link, changed-frames}
 use Rattle.head_laws.specs.Refusals.{call-accepted}
 use Rattle.head_laws.specs.Sound.{facts-link}
-
--- frames go from the head's own address with the head's count
-abbrev pub from : Head → Sender
-from h = record { source = h .address; timestamp = h .count }
 
 -- a call that leaves the head as it was, this link at this number, hands out these frames and gives this notice
 pub record Does (h : Head) (xs : List Link) (r : Call) (os : List ℕ) (number : ℕ) (l : Link) (ms : List Message) (n : Notice) : Type 0 where

@@ -1,4 +1,4 @@
--- Rules: a window that is opened waits the distance, is inside for exactly its length, then idle.
+-- Statement: a window that is opened waits for its start, is inside for exactly its length, then idle (R160).
 -- Assumes nothing.
 use Prim.Native.Nat.{ℕ, zero, suc, _+_, _≤_, _<_}
 use mathlib.Core.Path.{_≡_}

@@ -32,8 +32,8 @@ use Rattle.head_plans.specs.declared.Notice.{Notice}
 use Rattle.head_judging.specs.declared.Call.{Call}
 use Rattle.head_calls.specs.Serve.{serveOf}
 use Rattle.head_laws.specs.Calls.{planned, known}
-use Rattle.head_laws.specs.Does.{from, Does, Leads, done-few, does, leads, held-number}
-use Rattle.head_laws.specs.Stated.{sentBy}
+use Rattle.head_laws.specs.Does.{Does, Leads, done-few, does, leads, held-number}
+use Rattle.head_laws.specs.Stated.{sentBy, from}
 use Rattle.head_laws.specs.Refusals.{call-accepted}
 use Rattle.head_laws.specs.Sound.{facts-link}
 

@@ -1,4 +1,4 @@
--- Rules: ticks and client requests give no notices.
+-- Statement: only a message that is heard gives a notice (R152).
 -- Assumes nothing.
 use Prim.Native.Nat.{ℕ}
 use mathlib.Core.Path.{_≡_}

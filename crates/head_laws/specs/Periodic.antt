@@ -1,4 +1,4 @@
--- Rules: the periodic GATE goes out at the tick that ends its timer, and restarts it.
+-- Statement: the periodic GATE goes out at the tick that ends its timer, and restarts it (R19, R190).
 -- Assumes nothing.
 use Prim.Native.Nat.{ℕ, zero, suc, _+_, _-_, _<_}
 use mathlib.Core.Path.{_≡_}
@@ -19,8 +19,7 @@ use Rattle.head_survey.specs.Facts.{linkFrom}
 use Rattle.head_table.specs.Output.{messageOf}
 use Rattle.head_judging.specs.declared.Call.{Call}
 use Rattle.head_calls.specs.Serve.{serveOf}
-use Rattle.head_laws.specs.Does.{from}
-use Rattle.head_laws.specs.Handed.{callFrames}
+use Rattle.head_laws.specs.Stated.{callFrames, from}
 
 -- registered, with n ticks left before the next periodic GATE, and more before its watchdog ends
 pub record Gates (n : ℕ) (l : Link) : Type 0 where

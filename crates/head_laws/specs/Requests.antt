@@ -39,9 +39,9 @@ use Rattle.head_plans.specs.Plan.{quiet, accepted}
 use Rattle.head_judging.specs.declared.Call.{Call}
 use Rattle.head_calls.specs.Serve.{serveOf}
 use Rattle.head_laws.specs.Calls.{known, allTests}
-use Rattle.head_laws.specs.Does.{from, Does, Leads, done-few, does, leads, held-number}
+use Rattle.head_laws.specs.Does.{Does, Leads, done-few, does, leads, held-number}
 use Rattle.head_laws.specs.Events.{table-parts}
-use Rattle.head_laws.specs.Stated.{sentBy}
+use Rattle.head_laws.specs.Stated.{sentBy, from}
 use Rattle.head_laws.specs.Numbered.{Has, Lowest, lowest-idle, none-idle}
 use Rattle.head_laws.specs.Refusals.{call-reply, call-accepted}
 use Rattle.head_laws.specs.Sound.{facts-idle}

@@ -91,3 +91,7 @@ NotTick (Call.Gate link asked) = Unit {0}
 NotTick (Call.Hear link m) = Unit {0}
 NotTick Call.Tick = ⊥
 NotTick (Call.Advance n) = ⊥
+
+-- frames go from the head's own address with the head's count
+abbrev pub from : Head → Sender
+from h = record { source = h .address; timestamp = h .count }

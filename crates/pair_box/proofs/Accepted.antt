@@ -11,7 +11,8 @@ use Rattle.box_calls.specs.Answer.{accepted}
 use Rattle.box_calls.specs.Box.{tickOf}
 use Rattle.box_calls.specs.Hear.{isFor, heardOf, hearOf}
 use Rattle.box_calls.specs.declared.FloorBox.{FloorBox}
-use Rattle.box_laws.specs.Calls.{hear, tick, answer, step, drift}
+use Rattle.box_laws.specs.Calls.{step, drift}
+use Rattle.box_laws.specs.Stated.{hear, tick, answer}
 use Rattle.box_laws.specs.Runs.{Holds, holds-sound}
 use Rattle.box_laws.specs.Steady.{tick-ok}
 

@@ -8,7 +8,8 @@ use Rattle.frame.specs.declared.Address.{Address}
 use Rattle.box_calls.specs.Answer.{accepted}
 use Rattle.box_calls.specs.declared.Answer.{Answer}
 use Rattle.box_calls.specs.declared.FloorBox.{FloorBox}
-use Rattle.box_laws.specs.Calls.{Call, answer, tests, step, drift, Outcome, unsound, refuses, accepts}
+use Rattle.box_laws.specs.Calls.{tests, step, drift, Outcome, unsound, refuses, accepts}
+use Rattle.box_laws.specs.Stated.{Call, answer}
 use Rattle.box_laws.specs.Frames.{CallTyped, countAfter, step-sends, count-below, call-frames}
 use Rattle.box_laws.specs.Steady.{call-steady}
 use Rattle.box_laws.proofs.Activated.{activate-leaves}

@@ -23,7 +23,7 @@ use Rattle.box_calls.specs.Answer.{accepted}
 use Rattle.box_calls.specs.Hear.{isFor, hearOf}
 use Rattle.box_calls.specs.declared.Answer.{Answer}
 use Rattle.box_calls.specs.declared.FloorBox.{FloorBox}
-use Rattle.box_laws.specs.Calls.{hear, tick}
+use Rattle.box_laws.specs.Stated.{hear, tick}
 use Rattle.pair_wire.specs.Carried.{carries-valid}
 use Rattle.pair_wire.specs.Message.{messageIn}
 use Rattle.pair_box.specs.End.{stateOf, BoxEnd}

@@ -20,7 +20,8 @@ use Rattle.box_registration.specs.declared.State.{State}
 use Rattle.box_registration.specs.declared.State.the-variants.{RegisterReq, Registered}
 use Rattle.box_calls.specs.Box.{freshOf}
 use Rattle.box_calls.specs.declared.FloorBox.{FloorBox}
-use Rattle.box_laws.specs.Runs.{fresh, Holds, run-holds}
+use Rattle.box_laws.specs.Runs.{Holds, run-holds}
+use Rattle.box_laws.specs.Stated.{fresh}
 use Rattle.pair_demand.specs.Laws.{Gauge}
 use Rattle.pair_box.specs.End.{BoxEnd}
 

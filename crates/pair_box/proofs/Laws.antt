@@ -12,7 +12,7 @@ use Rattle.box_processes.specs.Parts.{withCount}
 use Rattle.box_calls.specs.Box.{tickOf}
 use Rattle.box_calls.specs.Hear.{hearOf}
 use Rattle.box_calls.specs.declared.FloorBox.{FloorBox}
-use Rattle.box_laws.specs.Calls as calls
+use Rattle.box_laws.specs.Stated as calls
 use Rattle.box_laws.specs.Calls.{outcome}
 use Rattle.box_laws.specs.Steady.{tick-ok}
 use Rattle.pair_wire.specs.Carried.{carries-valid}

@@ -22,7 +22,7 @@ use Rattle.box_calls.specs.Answer.{accepted}
 use Rattle.box_calls.specs.Hear.{isDiscovery, isFor, hearOf}
 use Rattle.box_calls.specs.declared.Answer.{Answer}
 use Rattle.box_calls.specs.declared.FloorBox.{FloorBox}
-use Rattle.box_laws.specs.Calls.{hear}
+use Rattle.box_laws.specs.Stated.{hear}
 use Rattle.box_laws.specs.Sound.{renewed}
 use Rattle.box_laws.specs.Watchdog.{discovery-keeps}
 use Rattle.pair_wire.specs.Carried.{carries-valid}

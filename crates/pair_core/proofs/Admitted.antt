@@ -23,7 +23,8 @@ use Rattle.box_calls.specs.Answer.{accepted, messageOf}
 use Rattle.box_calls.specs.Hear.{isFor}
 use Rattle.box_calls.specs.declared.Answer.{Answer}
 use Rattle.box_calls.specs.declared.FloorBox.{FloorBox}
-use Rattle.box_laws.specs.Calls.{hear, step}
+use Rattle.box_laws.specs.Calls.{step}
+use Rattle.box_laws.specs.Stated.{hear}
 use Rattle.box_laws.specs.Frames.{call-frames}
 use Rattle.pair_wire.specs.Carried.{carries-valid}
 use Rattle.pair_wire.specs.Message.{messageIn}

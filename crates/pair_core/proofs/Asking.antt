@@ -32,7 +32,8 @@ use Rattle.box_calls.specs.Box.{soundOf, freshOf, registerOf}
 use Rattle.box_calls.specs.Hear.{isFor}
 use Rattle.box_calls.specs.declared.Answer.{Answer}
 use Rattle.box_calls.specs.declared.FloorBox.{FloorBox}
-use Rattle.box_laws.specs.Calls.{Call, hear, tick, answer, step, drift}
+use Rattle.box_laws.specs.Calls.{step, drift}
+use Rattle.box_laws.specs.Stated.{Call, hear, tick, answer}
 use Rattle.box_laws.specs.Sound.{sound-test}
 use Rattle.pair_wire.specs.Carried.{carries-valid}
 use Rattle.pair_wire.specs.Message.{messageIn}

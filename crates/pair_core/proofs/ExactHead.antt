@@ -14,7 +14,7 @@ use Rattle.box_calls.specs.Box.{soundOf, deregisterOf}
 use Rattle.box_calls.specs.Hear.{hearOf}
 use Rattle.box_calls.specs.declared.FloorBox.{FloorBox}
 use Rattle.head_hearing.specs.Hear.{isFor}
-use Rattle.box_laws.specs.Calls.{deregister as leaving}
+use Rattle.box_laws.specs.Stated.{deregister as leaving}
 use Rattle.box_laws.specs.Sound.{sound-test}
 use Rattle.pair_demand.specs.Run.{HeadDrops, HasRegistered, Event, head-hears, box-call, both-tick, after, Allowed}
 use Rattle.pair_box.specs.End.{deregister, asked, stateOf, BoxEnd}

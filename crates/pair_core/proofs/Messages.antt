@@ -18,7 +18,7 @@ use Rattle.frame.specs.declared.RegisterFlag.{RegisterFlag}
 use Rattle.frame_range.specs.Fits.{fitsAddress, isIndividual}
 use Rattle.box_calls.specs.Answer as box
 use Rattle.head_table.specs.Output.{messageOf}
-use Rattle.head_laws.specs.Does.{from}
+use Rattle.head_laws.specs.Stated.{from}
 use Rattle.head_laws.specs.Runs.{run-sound, run-count}
 use Rattle.head_laws.specs.Window.{head-parts}
 use Rattle.pair_head.specs.End.{HeadState}

@@ -27,7 +27,7 @@ use Rattle.head_survey.specs.Facts.{idleFrom}
 use Rattle.head_table.specs.Output.{messageOf}
 use Rattle.head_judging.specs.declared.Call.{Call}
 use Rattle.head_laws.specs.Calls.{known}
-use Rattle.head_laws.specs.Does.{from}
+use Rattle.head_laws.specs.Stated.{from}
 use Rattle.head_laws.specs.Numbered.{held-has}
 use Rattle.pair_wire.specs.Message.{messageIn}
 use Rattle.pair_demand.specs.Run.{Answer, Aged, stamp}

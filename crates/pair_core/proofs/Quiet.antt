@@ -27,7 +27,7 @@ use Rattle.head_state.specs.declared.Head.{Head}
 use Rattle.head_table.specs.Output.{messageOf}
 use Rattle.head_requests.specs.Client.{fitsLengths, mayOpen}
 use Rattle.head_judging.specs.declared.Call.{Call}
-use Rattle.head_laws.specs.Does.{from}
+use Rattle.head_laws.specs.Stated.{from}
 use Rattle.head_laws.specs.Ticks.{tick-head}
 use Rattle.pair_demand.specs.Run.{Answer, Holds}
 use Rattle.pair_head.specs.End.{HeadState, linkAt, asked, HeadEnd}

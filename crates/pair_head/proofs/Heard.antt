@@ -31,7 +31,7 @@ use Rattle.head_judging.specs.Judge.{lookOf}
 use Rattle.head_judging.specs.declared.Call.{Call}
 use Rattle.head_calls.specs.Serve.{serveOf}
 use Rattle.head_laws.specs.Calls.{tests, known}
-use Rattle.head_laws.specs.Does.{from}
+use Rattle.head_laws.specs.Stated.{from}
 use Rattle.head_laws.specs.Events.{table-parts}
 use Rattle.head_laws.specs.Messages.{report-heard, ack-heard}
 use Rattle.head_laws.specs.Runs.{run-sound, run-count}

@@ -5,7 +5,7 @@ use crate::frames::written;
 use crate::kept::Kept;
 use crate::measure::Case;
 use crustnewt::sys::{self, HeadMemory, MOST_TICKS};
-use crustnewt::{Body, Frame, Head, HeadParts, Link, LinkState, Message, Table, VecTable, Window};
+use crustnewt::{Body, Frame, Head, HeadParts, Link, Message, Table, VecTable, Window};
 use crustnewt_tool::numbers::{plural, thousands};
 use plain::{Address, HeadAnswer, Refusal};
 use std::hint::black_box;
@@ -15,7 +15,8 @@ pub const HEAD: u64 = 0x0200_0000_0001;
 
 /// Ticks after which a head is set back, so that no timer ends.
 const TICKS: u32 = 1_000_000;
-const WATCHDOG: u32 = 62_500_000;
+/// Ticks without a REPORT until a link is dropped.
+pub const WATCHDOG: u32 = 62_500_000;
 /// Ticks between two GATEs for a box, and between two of its REPORTs.
 pub const PERIOD: u32 = 3_125_000;
 
@@ -101,7 +102,7 @@ fn counted(links: usize) -> String {
 
 /// A head with so many registered links, and every timer full.
 pub fn pair(links: usize, addresses: Addresses) -> Pair {
-    let table = (0..links).map(|place| registered(addresses(place), PERIOD));
+    let table = (0..links).map(|place| Link::registered(addresses(place), WATCHDOG, PERIOD));
     let plain = Plain {
         head: plain::Head {
             address: Address(HEAD),
@@ -124,17 +125,6 @@ pub fn restored(links: impl Iterator<Item = Link>) -> Head<VecTable> {
     let table = VecTable::from_words(links.map(|link| link.words()).collect());
     let table = table.expect("it has 1 to 64 links");
     Head::restored(&parts, table).expect("it is sound")
-}
-
-/// A link that a registered box holds.
-pub fn registered(address: u64, periodic: u32) -> Link {
-    Link {
-        address,
-        state: LinkState::Registered,
-        wait: 0,
-        watchdog: WATCHDOG,
-        periodic,
-    }
 }
 
 fn plain_link(link: Link) -> plain::Link {

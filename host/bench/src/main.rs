@@ -9,12 +9,16 @@ mod limits;
 mod measure;
 mod second;
 
-use crustnewt_tool::options::{asks_for_help, refuse, Options};
+use crustnewt_tool::options::{Options, Program};
 use limits::{limit_of, Limit};
 use measure::{Case, Times};
 use std::process::ExitCode;
 
-const HELP: &str = include_str!("../help.txt");
+const PROGRAM: Program = Program {
+    name: "bench",
+    help: include_str!("../help.txt"),
+    help_command: "`bench --help` or `./bench --help`",
+};
 
 /// Tries that a row gets before it is above its limit.
 const TRIES: usize = 3;
@@ -26,19 +30,11 @@ struct Asked {
 }
 
 fn main() -> ExitCode {
-    let words: Vec<String> = std::env::args().skip(1).collect();
-    if asks_for_help(&words) {
-        print!("{HELP}");
-        return ExitCode::SUCCESS;
-    }
-    match asked(Options::new(&words)) {
-        Ok(asked) => run(&asked),
-        Err(complaint) => refuse("bench", &complaint, "`bench --help` or `./bench --help`"),
-    }
+    PROGRAM.start(asked, run)
 }
 
-fn run(asked: &Asked) -> ExitCode {
-    let broken = measure_all(asked);
+fn run(asked: Asked) -> ExitCode {
+    let broken = measure_all(&asked);
     for line in &broken {
         eprintln!("bench: {line}");
     }
@@ -164,6 +160,20 @@ fn print_row(name: &str, [first, second, ratio, limit]: [&str; 4]) {
 #[cfg(test)]
 mod tests {
     use super::*;
+
+    #[test]
+    fn options_are_followed() {
+        for words in [
+            &["--only", "a=b", "--check"][..],
+            &["--only=a=b", "--check"],
+        ] {
+            let words: Vec<String> = words.iter().map(|word| (*word).to_owned()).collect();
+            let asked = asked(Options::new(&words)).unwrap();
+            assert!(asked.check && asked.only == "a=b");
+        }
+        let missing = asked(Options::new(&["--only".to_owned()])).err();
+        assert_eq!(missing.as_deref(), Some("--only needs a text"));
+    }
 
     #[test]
     fn the_page_has_a_limit_for_every_row_and_no_other() {

@@ -1,11 +1,12 @@
 //! A second of a head and 64 boxes, all registered.
 
 use crate::boxes::{self, parts};
-use crate::heads::{self, in_a_row, pair, PERIOD};
+use crate::heads::{self, in_a_row, pair, PERIOD, WATCHDOG};
 use crate::measure::Case;
 use crustnewt::sys::MOST_TICKS;
 use crustnewt::{
-    Advanced, BoxParts, BoxReply, BoxState, FloorBox, Frame, Head, HeadReply, Refusal, VecTable,
+    Advanced, BoxParts, BoxReply, BoxState, FloorBox, Frame, Head, HeadReply, Link, Refusal,
+    VecTable,
 };
 use std::hint::black_box;
 
@@ -72,7 +73,8 @@ impl World {
     fn new(period: u32) -> World {
         let apart = period / (2 * BOXES as u32);
         let gate = |place| period - 2 * apart * place as u32;
-        let links = (0..BOXES).map(|place| heads::registered(in_a_row(place), gate(place)));
+        let links =
+            (0..BOXES).map(|place| Link::registered(in_a_row(place), WATCHDOG, gate(place)));
         let boxes = (0..BOXES).map(|place| {
             let report = gate(place) - apart;
             let registered = parts(in_a_row(place), BoxState::Registered);

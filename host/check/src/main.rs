@@ -4,12 +4,16 @@ use check::{check, check_fixed, compare_wide};
 use crustnewt_core::Core;
 use crustnewt_tool::cores::CORES;
 use crustnewt_tool::numbers::plural;
-use crustnewt_tool::options::{asks_for_help, refuse, Options};
+use crustnewt_tool::options::{Options, Program};
 use crustnewt_tool::progress::ProgressLine;
 use std::process::ExitCode;
 use std::time::{Duration, Instant};
 
-const HELP: &str = include_str!("../help.txt");
+const PROGRAM: Program = Program {
+    name: "check",
+    help: include_str!("../help.txt"),
+    help_command: "`check --help`",
+};
 
 /// Cases between two lines of progress at a terminal.
 const BETWEEN_LINES: u64 = 1000;
@@ -37,15 +41,7 @@ impl Limit {
 }
 
 fn main() -> ExitCode {
-    let words: Vec<String> = std::env::args().skip(1).collect();
-    if asks_for_help(&words) {
-        print!("{HELP}");
-        return ExitCode::SUCCESS;
-    }
-    match asked(Options::new(&words)) {
-        Ok(asked) => run(&asked),
-        Err(complaint) => refuse("check", &complaint, "`check --help`"),
-    }
+    PROGRAM.start(asked, run)
 }
 
 fn asked(mut options: Options<'_>) -> Result<Asked, String> {
@@ -72,8 +68,8 @@ fn asked(mut options: Options<'_>) -> Result<Asked, String> {
     Ok(asked)
 }
 
-fn run(asked: &Asked) -> ExitCode {
-    match play(asked) {
+fn run(asked: Asked) -> ExitCode {
+    match play(&asked) {
         Ok(told) => {
             println!("{told}");
             ExitCode::SUCCESS
@@ -119,4 +115,46 @@ fn difference(asked: &Asked, seed: u64) -> Option<String> {
     Some(format!(
         "# seed {seed}: the cores differ when asked directly\n{told}"
     ))
+}
+
+#[cfg(test)]
+mod tests {
+    use super::*;
+
+    fn asked_with(words: &[&str]) -> Result<Asked, String> {
+        let words: Vec<String> = words.iter().map(|word| (*word).to_owned()).collect();
+        asked(Options::new(&words))
+    }
+
+    #[test]
+    fn options_are_followed() {
+        for words in [
+            &["--cases", "2", "--seed", "5", "--first", "plain"][..],
+            &["--cases=2", "--seed=5", "--first=plain"],
+        ] {
+            let asked = asked_with(words).unwrap();
+            assert!(matches!(asked.limit, Limit::Cases(2)));
+            assert_eq!(asked.seed, 5);
+        }
+        let soaking = asked_with(&["--soak=2"]).unwrap().limit;
+        assert!(matches!(soaking, Limit::Time(time) if time.as_secs() == 120));
+    }
+
+    #[test]
+    fn wrong_options_are_told() {
+        for (word, complaint) in [
+            ("--case=1", "unknown option `--case`"),
+            ("--cases=x", "--cases needs a number"),
+            ("--second=third", "--second needs one of: proved, plain"),
+        ] {
+            assert_eq!(asked_with(&[word]).err().as_deref(), Some(complaint));
+        }
+    }
+
+    #[test]
+    fn a_case_alone_is_singular() {
+        let case = asked_with(&["--cases=1", "--seed=7"]).unwrap();
+        let told = play(&case).unwrap();
+        assert_eq!(told, "1 case from seed 7 on, no difference");
+    }
 }

@@ -104,23 +104,14 @@ fn meet_box(met: &mut Met, before: &FloorBox, ticks: u64) {
         (false, false) => {}
     }
     if reply.is_quiet() {
-        meet(format!("silent, {} to {}", phase(before), phase(&after)));
+        meet(format!(
+            "silent, {} to {}",
+            before.light.name(),
+            after.light.name()
+        ));
     }
     if reply.is_quiet() && after.light == Light::Rest && !before.grants.is_empty() {
         meet("silent, grants leave".into());
-    }
-}
-
-fn phase(floor_box: &FloorBox) -> &'static str {
-    match floor_box.light {
-        Light::Rest => "rest",
-        Light::Before { .. } => "before",
-        Light::Random { .. } => "random",
-        Light::Warming { .. } => "warming",
-        Light::Asking { .. } => "asking",
-        Light::Due { .. } => "due",
-        Light::Lit { .. } => "lit",
-        Light::Open { .. } => "open",
     }
 }
 

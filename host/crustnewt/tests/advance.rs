@@ -1,4 +1,4 @@
-//! Many ticks in one call; answers worked by hand from document 01.
+//! Many ticks in one call; answers worked by hand from the rules.
 
 use crustnewt::sys::{self, BoxMemory, HeadMemory, MOST_TICKS};
 use crustnewt::{
@@ -53,24 +53,8 @@ fn restored(parts: BoxParts) -> FloorBox {
     FloorBox::restored(&parts).unwrap()
 }
 
-fn waiting(address: u64, wait: u32) -> Link {
-    Link {
-        address,
-        state: LinkState::Waiting,
-        wait,
-        watchdog: 0,
-        periodic: 0,
-    }
-}
-
 fn held(address: u64, periodic: u32) -> Link {
-    Link {
-        address,
-        state: LinkState::Registered,
-        wait: 0,
-        watchdog: WATCHDOG,
-        periodic,
-    }
+    Link::registered(address, WATCHDOG, periodic)
 }
 
 fn head<const LINKS: usize>(window: Window, links: [Link; LINKS]) -> Head<ArrayTable<LINKS>> {
@@ -174,7 +158,7 @@ fn a_head_stops_at_a_frame_and_not_at_its_window() {
         left: 10,
         length: 5,
     };
-    let mut head = head(before, [held(BOX, 40), waiting(OTHER, 30)]);
+    let mut head = head(before, [held(BOX, 40), Link::waiting(OTHER, 30)]);
     assert_eq!(head.ticks_until(), 29);
     let Advanced { reply, made } = head.advance(MOST_TICKS).unwrap();
     assert_eq!(made, 30);

@@ -1,4 +1,4 @@
-//! The wrapper in use; answers worked by hand from document 01.
+//! The wrapper in use; answers worked by hand from the rules.
 
 use crustnewt::{
     AckFlag, ArrayTable, Body, BoxNotice, BoxState, FloorBox, Frame, Grant, Granted, Head,

@@ -1,21 +1,17 @@
 //! `fuzz`: any memory and any octets for every function of the C face.
 
-use crustnewt_tool::options::{asks_for_help, refuse, Options};
+use crustnewt_tool::options::{Options, Program};
 use fuzz::{fuzz, Library, Tally, CALLS};
 use std::process::ExitCode;
 
-const HELP: &str = include_str!("../help.txt");
+const PROGRAM: Program = Program {
+    name: "fuzz",
+    help: include_str!("../help.txt"),
+    help_command: "`fuzz --help`",
+};
 
 fn main() -> ExitCode {
-    let words: Vec<String> = std::env::args().skip(1).collect();
-    if asks_for_help(&words) {
-        print!("{HELP}");
-        return ExitCode::SUCCESS;
-    }
-    match asked(Options::new(&words)) {
-        Ok((cases, seed)) => run(cases, seed),
-        Err(complaint) => refuse("fuzz", &complaint, "`fuzz --help`"),
-    }
+    PROGRAM.start(asked, run)
 }
 
 /// Number of cases and first seed.
@@ -31,7 +27,7 @@ fn asked(mut options: Options<'_>) -> Result<(u64, u64), String> {
     Ok((cases, seed))
 }
 
-fn run(cases: u64, seed: u64) -> ExitCode {
+fn run((cases, seed): (u64, u64)) -> ExitCode {
     match make(cases, seed) {
         Ok(tally) => {
             let calls = cases.saturating_mul(CALLS as u64);

@@ -3,50 +3,32 @@
 use pages::graph::Graph;
 use pages::reach::Reach;
 use pages::reading::{Reading, READING};
+use pages::sum::Sum;
 use pages::trace::{RULES, TRACE};
 use pages::tree::Tree;
-use pages::{check, edits, report, rules, trace};
-use std::path::{Path, PathBuf};
+use pages::{check, edits, report, rows, rules, trace};
+use std::io::Write;
+use std::path::Path;
 use std::process::ExitCode;
 use std::{fs, io};
 
-const HELP: &str = "\
-Usage: pages check|reach|rows [--root DIR]
-
-Which definitions must be believed: those that the contracts of public
-functions and the statements listed in docs/READING.md reach, each with all
-that its type and its body mention.
-
-  check  holds docs/READING.md and docs/TRACE.md against the crates and
-         docs/RULES.md; a line for each fault
-  reach  says of every page which of its declarations are reached (+), by a
-         promise of the archive (A), a promise of a crate below it (B), a
-         statement (S)
-  rows   writes the rows of the list as the crates are now
-  --root DIR  the repository (default: the folder that it is run in)
-
-Exit status: 0 if nothing is wrong, 1 if something is, 2 if the command line
-can't be followed or a file can't be read.";
+const HELP: &str = include_str!("../help.txt");
 
 fn main() -> ExitCode {
     let words: Vec<String> = std::env::args().skip(1).collect();
     let words: Vec<&str> = words.iter().map(String::as_str).collect();
-    let (command, root) = match words[..] {
+    let done = match words[..] {
         ["--help" | "-h"] => {
-            println!("{HELP}");
+            print!("{HELP}");
             return ExitCode::SUCCESS;
         }
-        [command @ ("check" | "reach" | "rows")] => (command, "."),
-        [command @ ("check" | "reach" | "rows"), "--root", root] => (command, root),
-        _ => {
-            eprintln!(
-                "pages: can't follow '{}'; see pages --help",
-                words.join(" ")
-            );
-            return ExitCode::from(2);
-        }
+        [] => run("check", Path::new(".")),
+        [command @ ("check" | "reach" | "rows")] => run(command, Path::new(".")),
+        ["check" | "reach" | "rows", word, ..] | [word, ..] => Err(io::Error::other(format!(
+            "can't follow '{word}'; see `pages --help`"
+        ))),
     };
-    run(command, &PathBuf::from(root)).unwrap_or_else(|error| {
+    done.unwrap_or_else(|error| {
         eprintln!("pages: {error}");
         ExitCode::from(2)
     })
@@ -58,13 +40,13 @@ fn read(root: &Path, path: &str) -> io::Result<String> {
 }
 
 fn run(command: &str, root: &Path) -> io::Result<ExitCode> {
-    let tree = Tree::read(root)?;
+    let tree = Tree::read(root).map_err(|error| io::Error::other(format!("crates: {error}")))?;
     let graph = Graph::of(&tree);
     let reading = Reading::parse(&read(root, READING)?);
     let reach = Reach::of(&tree, &graph, &reading);
     match command {
-        "reach" => println!("{}", report::reach(&tree, &reach)),
-        "rows" => println!("{}", report::rows(&tree, &reach, &reading)),
+        "reach" => writeln!(io::stdout(), "{}", report::reach(&tree, &reach))?,
+        "rows" => writeln!(io::stdout(), "{}", rows::rows(&tree, &reach))?,
         _ => return checked(root, &tree, &graph, &reading, &reach),
     }
     Ok(ExitCode::SUCCESS)
@@ -78,14 +60,14 @@ fn checked(
     reach: &Reach,
 ) -> io::Result<ExitCode> {
     let rules = rules::rules(&read(root, RULES)?);
-    let (mut errors, sum) = check::check(tree, graph, reading, reach, &rules);
+    let mut errors = check::check(tree, graph, reading, reach, &rules);
     let wrong = edits::wrong_answers(root)?;
     errors.extend(trace::check(tree, &read(root, TRACE)?, &rules, &wrong));
     for error in &errors {
         eprintln!("{error}");
     }
     if errors.is_empty() {
-        println!("{}", report::summary(&sum, rules.len()));
+        println!("pages: {} rules. {}", rules.len(), Sum::of(tree, reach));
         return Ok(ExitCode::SUCCESS);
     }
     eprintln!("pages: {} faults", errors.len());

@@ -1,6 +1,7 @@
 //! Which names a declaration mentions: not those that it binds, nor fields behind a dot, nor labels.
 
-use crate::page::{Item, Page};
+use crate::item::Item;
+use crate::page::Page;
 use crate::token::{depths, Token};
 use std::collections::BTreeSet;
 

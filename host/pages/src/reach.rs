@@ -1,7 +1,7 @@
 //! What must be believed: all that public promises and statements reach.
 
 use crate::graph::{promised, Graph};
-use crate::page::{Item, Kind};
+use crate::item::{Item, Kind};
 use crate::reading::{Named, Reading, READING};
 use crate::scope::{Scope, Thing};
 use crate::tree::Tree;
@@ -56,7 +56,7 @@ impl Reach {
             let shaped = self.items(tree, tie.line, &tie.shaped);
             let pages = self.items(tree, tie.line, &tie.page);
             for theorem in self.items(tree, tie.line, &tie.theorem) {
-                let said = &graph.nodes[&theorem].head;
+                let said = said(tree, graph, &theorem);
                 for missing in shaped
                     .iter()
                     .chain(&pages)
@@ -206,6 +206,15 @@ impl Reach {
             .push(format!("crates/{owner}/src has no type `{name}`"));
         Vec::new()
     }
+}
+
+/// What a theorem says, or a statement that one proves.
+fn said(tree: &Tree, graph: &Graph, thing: &Thing) -> BTreeSet<Thing> {
+    let node = &graph.nodes[thing];
+    if item(tree, thing).is_some_and(Item::is_type) {
+        return node.head.union(&node.body).cloned().collect();
+    }
+    node.head.clone()
 }
 
 /// A declaration; nothing of what is none, or of an `open` line.

@@ -1,10 +1,7 @@
 //! `pages reach`: which declarations of each page are reached, and by what.
 
-use crate::check::Sum;
-use crate::page::{Item, Kind};
+use crate::item::{Item, Kind};
 use crate::reach::{Reach, Why};
-use crate::reading::Reading;
-use crate::rules;
 use crate::scope::Thing;
 use crate::tree::Tree;
 use std::collections::BTreeMap;
@@ -82,73 +79,4 @@ fn reasons(why: &BTreeMap<Why, String>) -> String {
     ];
     let letter = |(of, letter)| if why.contains_key(&of) { letter } else { '-' };
     letters.map(letter).iter().collect()
-}
-
-/// Rows for the list, as the crates are now: pages that are reached, and types.
-pub fn rows(tree: &Tree, reach: &Reach, reading: &Reading) -> String {
-    let mut lines = Vec::new();
-    for (place, file) in tree.files.iter().enumerate() {
-        let things = (0..file.page.items.len()).map(|at| Thing::Item(place, at));
-        let mut things = things.filter(|thing| !reach.ties.contains_key(thing));
-        if !things.any(|thing| reach.found.contains_key(&thing)) {
-            continue;
-        }
-        let (kind, words) = file
-            .page
-            .heading
-            .split_once(':')
-            .unwrap_or(("", &file.page.heading));
-        let rules = if rules::named(kind).is_empty() {
-            ""
-        } else {
-            kind.trim_start_matches("Rules ")
-                .trim_start_matches("Rule ")
-        };
-        let known = reading.pages.iter().any(|page| page.file.path == file.path);
-        let mark = if known { "" } else { " (new)" };
-        lines.push(format!(
-            "| {} | {} | {rules} | {}{mark} |",
-            link(&file.path),
-            file.page.lines,
-            words.trim()
-        ));
-    }
-    lines.push(String::new());
-    for code in &tree.code {
-        let is_reached = |name: &str| {
-            reach
-                .found
-                .contains_key(&Thing::Type(code.owner.clone(), name.into()))
-        };
-        let types: Vec<_> = code
-            .source
-            .types
-            .iter()
-            .filter(|of| is_reached(&of.name))
-            .collect();
-        let names: Vec<String> = types.iter().map(|of| format!("`{}`", of.name)).collect();
-        let count: usize = types.iter().map(|of| of.lines).sum();
-        if !types.is_empty() {
-            lines.push(format!(
-                "| {} | {count} | {} |",
-                link(&code.path),
-                names.join(", ")
-            ));
-        }
-    }
-    lines.join("\n")
-}
-
-fn link(path: &str) -> String {
-    let parts: Vec<&str> = path.split('/').collect();
-    let name = parts[parts.len() - 1];
-    format!("[{}/{name}](../{path})", parts.get(1).unwrap_or(&""))
-}
-
-/// One line for a list that holds.
-pub fn summary(sum: &Sum, rules: usize) -> String {
-    format!(
-        "pages: {} lines on {} pages, {} lines of types, {} rules",
-        sum.lines, sum.pages, sum.types, rules
-    )
 }

@@ -1,8 +1,8 @@
 //! What names stand for.
 
 use crate::import::Import;
+use crate::item::Kind;
 use crate::mention::Mention;
-use crate::page::Kind;
 use crate::tree::Tree;
 use std::collections::{BTreeMap, BTreeSet};
 

@@ -1,6 +1,6 @@
 //! docs/TRACE.md: a row for each rule.
 
-use crate::page::Kind;
+use crate::item::Kind;
 use crate::table::{quoted, rows, Row};
 use crate::tree::Tree;
 use std::collections::{BTreeMap, BTreeSet};
@@ -18,7 +18,14 @@ pub fn check(
     wrong: &BTreeSet<String>,
 ) -> Vec<String> {
     let mut errors = Vec::new();
-    let known: BTreeMap<usize, usize> = rules.iter().copied().collect();
+    let mut known: BTreeMap<usize, usize> = BTreeMap::new();
+    for &(rule, line) in rules {
+        if let Some(first) = known.insert(rule, line) {
+            errors.push(format!(
+                "{RULES}:{line}: R{rule} is said already, line {first}"
+            ));
+        }
+    }
     let mut seen: BTreeMap<usize, usize> = BTreeMap::new();
     for row in rows(text) {
         let Some(rule) = number(&row) else { continue };
@@ -128,6 +135,13 @@ mod tests {
         let text = "| R1 | here | `clock::isPast`, `clock::Count` | `clock::now_is_past` |\n| R2 | there | none: a unit | none: no `code` |\n";
         assert_eq!(errors(text), [""; 0]);
         assert_eq!(errors(&text.replace("isPast", "Count::next")), [""; 0]);
+    }
+
+    #[test]
+    fn a_rule_is_said_once() {
+        let text = "| R1 | here | none: a unit | none: a unit |\n";
+        let found = check(&tree(), text, &[(1, 4), (1, 9)], &BTreeSet::new());
+        assert_eq!(found, ["docs/RULES.md:9: R1 is said already, line 4"]);
     }
 
     #[test]

@@ -37,6 +37,8 @@ pub struct Tree {
     pub code: Vec<Code>,
     /// Each crate, as `crates.txt` has them, and what it rests on.
     pub crates: Vec<(String, Vec<String>)>,
+    /// The comments of `crates.txt`, each with the crates below it.
+    pub families: Vec<(String, Vec<String>)>,
     places: BTreeMap<(String, String), usize>,
 }
 
@@ -61,15 +63,19 @@ impl Tree {
 
     /// No files, and these crates.
     pub fn new(crates: &str) -> Tree {
-        let lines = crates.lines().filter(|line| !line.starts_with('#'));
-        let named = lines.filter_map(|line| line.split_once(':'));
-        let words = |needs: &str| needs.split_whitespace().map(str::to_string).collect();
-        Tree {
-            crates: named
-                .map(|(name, needs)| (name.trim().into(), words(needs)))
-                .collect(),
-            ..Tree::default()
+        let mut tree = Tree::default();
+        for line in crates.lines() {
+            if let Some(title) = line.strip_prefix("# ") {
+                tree.families.push((title.to_string(), Vec::new()));
+            } else if let Some((name, needs)) = line.split_once(':') {
+                let needs = needs.split_whitespace().map(str::to_string);
+                tree.crates.push((name.to_string(), needs.collect()));
+                if let Some((_, members)) = tree.families.last_mut() {
+                    members.push(name.to_string());
+                }
+            }
         }
+        tree
     }
 
     /// Adds `crates/OWNER/PART/..`.
@@ -166,5 +172,7 @@ mod tests {
         assert_eq!(tree.page_at("crates/clock/specs/Counts.antt"), Some(0));
         assert_eq!(tree.place("frame", "specs.Counts"), None);
         assert_eq!(tree.code.len(), 1);
+        let members = ["clock", "frame", "other"].map(str::to_string).to_vec();
+        assert_eq!(tree.families, [("base".to_string(), members)]);
     }
 }

@@ -40,7 +40,7 @@ fn errors_in(tree: &Tree, list: &str) -> Vec<String> {
     let graph = Graph::of(tree);
     let reading = Reading::parse(list);
     let reach = Reach::of(tree, &graph, &reading);
-    check(tree, &graph, &reading, &reach, &[(1, 3), (2, 4)]).0
+    check(tree, &graph, &reading, &reach, &[(1, 3), (2, 4)])
 }
 
 /// The faults of the list with a change, those that it begins with left out.
@@ -129,13 +129,32 @@ fn rules_and_headings() {
     let mut changed = tree();
     changed.add("crates/clock/specs/More.antt", "-- Document 01.\n");
     changed.add("crates/clock/specs/Rule.antt", "-- Rule R1: more.\n");
+    changed.add(
+        "crates/clock/specs/Aside.antt",
+        "-- Code: as the loop does.\n",
+    );
     assert_eq!(
         errors_in(&changed, LIST),
         [
-            "crates/clock/specs/More.antt:1: begins with none of: Rule, Rules, Statement, Lemmas, Code",
+            "crates/clock/specs/More.antt:1: begins with none of: Rule, Rules, Statement, Face, Lemmas, Code",
             "crates/clock/specs/Rule.antt:1: begins as a page to believe, and isn't in docs/READING.md",
         ]
     );
+}
+
+#[test]
+fn rules_are_named() {
+    let changed = tree_with("-- Rules R1 to R2: counts.", "-- Rules: counts.");
+    assert_eq!(
+        errors_in(&changed, LIST),
+        [
+            "docs/READING.md:20: the heading of crates/clock/specs/Counts.antt has other rules: Rules",
+            "crates/clock/specs/Counts.antt:1: begins with rules, and names none",
+        ]
+    );
+    let changed = tree_with("-- Statement: a count", "-- Lemmas: a count");
+    let aside = "crates/clock/specs/Stated.antt:1: is in docs/READING.md, and begins as Lemmas";
+    assert_eq!(errors_in(&changed, LIST), [aside]);
 }
 
 #[test]
@@ -170,7 +189,7 @@ fn types_are_held() {
         [
             "docs/READING.md:27: nothing reaches a type `Timer` of crates/clock/src/lib.rt",
             "docs/READING.md:27: these types of crates/clock/src/lib.rt have 4 lines",
-            "crates/clock/src: the type `Quanta` is reached and isn't in docs/READING.md",
+            "crates/clock/src: the type `Quanta` is reached, and isn't in docs/READING.md",
         ]
     );
 }

@@ -1,4 +1,4 @@
-//! Many ticks in one call ("Advance").
+//! Many ticks in one call (R191 to R195).
 //!
 //! An advance is defined by single ticks: they are made until as many are made
 //! as were asked for, or the last one handed something out, or the next would

@@ -1,4 +1,4 @@
-//! The 32-bit counter ("Counts and lengths").
+//! The 32-bit counter (R6 to R11).
 
 use crate::numbers::FURTHEST_START;
 

@@ -1,4 +1,4 @@
-//! The box ("Steps of the box"): state, calls, and the order of tests.
+//! The box (R89 to R144): state, calls, and the order of tests.
 
 mod advance;
 mod sound;
@@ -149,15 +149,14 @@ impl FloorBox {
             drift: self.count.distance_to(message.stamp),
             ..BoxAnswer::default()
         };
-        // "Before any step its count is set to the timestamp."
+        // Steps already see the new count (R14).
         self.count = message.stamp;
         self.act_on(message, random, &mut answer);
         self.activate();
         Ok(answer)
     }
 
-    /// One quantum passes: "count, then registration timer, report timer,
-    /// transmitter".
+    /// One quantum passes (R136).
     pub fn tick(&mut self) -> Result<BoxAnswer, Refusal> {
         require(self.is_sound(), Refusal::Unsound)?;
         require(!self.opens_unasked(), Refusal::UnaskedWindow)?;

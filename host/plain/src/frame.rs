@@ -1,4 +1,4 @@
-//! The five control frames ("Frames").
+//! The five control frames (R30 to R51).
 
 mod read;
 mod write;

@@ -1,4 +1,4 @@
-//! The head ("Steps of the head"): state, calls, and the order of tests.
+//! The head (R145 to R190): state, calls, and the order of tests.
 
 mod advance;
 mod hear;
@@ -237,7 +237,7 @@ impl Head {
         Post::one(self, output, link.address, Body::Gate(gate))
     }
 
-    /// One quantum passes: "count, window, then links in order".
+    /// One quantum passes (R188).
     pub fn tick(&mut self, links: &mut [Link], output: &mut [u8]) -> Answer {
         self.require_ready(links, output)?;
         Ok(self.make_tick(links, output))
@@ -342,7 +342,7 @@ fn registered_place(links: &[Link], link: u64) -> Result<usize, Refusal> {
     Ok(place)
 }
 
-/// A REGISTER for the link at `place`: "port equals link".
+/// A REGISTER for the link at `place`, whose number is its port (R146).
 fn register(place: usize, flag: RegisterFlag, sync: u32, pending: u8) -> Body {
     Body::Register {
         port: (place + 1) as u16,

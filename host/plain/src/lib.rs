@@ -1,8 +1,8 @@
 //! Head and floor box of an Ethernet passive optical network, in plain Rust.
 //!
-//! Written from document 01 (`docs/RULES.md`) and the readings alone, as a
-//! second opinion on the proved implementation. Section names in comments
-//! are those of document 01.
+//! Written from the rules of head and box and their readings alone, as a
+//! second opinion on the proved implementation. Comments cite rules by their
+//! numbers in `docs/RULES.md`.
 //!
 //! Every call is total: it ends with an answer or a [`Refusal`] for every
 //! state handed in, sound or not, and a refused call changes nothing.

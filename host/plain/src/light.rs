@@ -69,6 +69,20 @@ pub enum Light {
 }
 
 impl Light {
+    /// Its name, as the replay language has it.
+    pub const fn name(&self) -> &'static str {
+        match self {
+            Light::Rest => "rest",
+            Light::Before { .. } => "before",
+            Light::Random { .. } => "random",
+            Light::Warming { .. } => "warming",
+            Light::Asking { .. } => "asking",
+            Light::Due { .. } => "due",
+            Light::Lit { .. } => "lit",
+            Light::Open { .. } => "open",
+        }
+    }
+
     /// Ticks left of what the transmitter does, 0 at rest.
     pub const fn left(&self) -> u32 {
         match *self {
@@ -105,7 +119,7 @@ impl Light {
         }
     }
 
-    /// Whether this is a sound transmitter beside that list ("Sound box").
+    /// Whether this is a sound transmitter beside that list (R82 to R87).
     pub(crate) fn is_sound(&self, list: &GrantList) -> bool {
         match *self {
             Light::Rest => true,

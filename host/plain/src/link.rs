@@ -1,4 +1,4 @@
-//! One record of the head's table ("Sound table").
+//! One record of the head's table (R74 to R77).
 
 use crate::address::Address;
 use crate::numbers::{before_first_end, pass, runs, PERIOD, WAIT, WATCHDOG};

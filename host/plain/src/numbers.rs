@@ -1,4 +1,4 @@
-//! Document 01's "Numbers", and the sums made from them.
+//! Numbers (R17 to R29), and the sums made from them.
 
 /// Ticks from laser on to the start of the sync time.
 pub const LASER_ON: u32 = 32;

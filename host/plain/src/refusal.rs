@@ -1,6 +1,6 @@
 //! The reply numbers above 0.
 
-/// Why a call was refused; the value is document 01's reply number.
+/// Why a call was refused; the value is the reply number (R53 to R66).
 #[derive(Clone, Copy, Debug, PartialEq, Eq)]
 #[repr(u8)]
 pub enum Refusal {
@@ -10,27 +10,27 @@ pub enum Refusal {
     NotControl = 2,
     /// The opcode isn't 2 to 6.
     UnknownOpcode = 3,
-    /// A field or address is outside its range.
+    /// An address or a field is out of range.
     OutOfRange = 4,
-    /// The message goes the other way.
+    /// This end sends such messages and hears none.
     WrongWay = 5,
-    /// The link number isn't allowed here, is above the table, or is idle.
+    /// The table has no such link, it is idle, or the number isn't for this call.
     NoSuchLink = 6,
-    /// Not in this state.
+    /// The state isn't the one for it.
     NotNow = 7,
-    /// Not this party's address.
+    /// The address is another party's.
     NotMine = 8,
-    /// Start, length or number of grants is outside its range.
+    /// A start, a length, a number of grants or of ticks is outside its bounds.
     BadGrant = 9,
-    /// The address already holds a link.
+    /// A link is held for this address already.
     AlreadyHeld = 10,
-    /// Every link is held.
+    /// No link is idle.
     TableFull = 11,
-    /// The output is shorter than 60 x number of links.
+    /// The output has fewer than 60 octets for each link.
     ShortOutput = 12,
-    /// Unsound state or table.
+    /// State or table is unsound.
     Unsound = 13,
-    /// A discovery window opens on a box that isn't REGISTERING.
+    /// The box would ask to register without being REGISTERING.
     UnaskedWindow = 14,
 }
 

@@ -1,4 +1,4 @@
-//! Advance, worked by hand from the table of its rule, and held against
+//! Advance, worked by hand from the rules (R191 to R195), and held against
 //! single ticks from many states.
 
 use plain::frame::{read, RegisterFlag, RequestFlag};

@@ -1,4 +1,4 @@
-//! The box's steps, worked by hand from document 01's "Steps of the box".
+//! The box's steps, worked by hand from the rules (R89 to R144).
 
 use plain::frame::{read, AckFlag, RegisterFlag, RequestFlag};
 use plain::{

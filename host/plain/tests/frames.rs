@@ -1,4 +1,4 @@
-//! Frames worked by hand from document 01's "Frames".
+//! Frames worked by hand from the rules (R30 to R51).
 
 use plain::frame::{read, write, AckFlag, RegisterFlag, RequestFlag};
 use plain::{Address, Body, Count, Frame, Gate, Grant, Granted, Message, Refusal};

@@ -1,4 +1,4 @@
-//! The head's steps, worked by hand from document 01's "Steps of the head".
+//! The head's steps, worked by hand from the rules (R145 to R190).
 
 use plain::frame::{read, AckFlag, RegisterFlag, RequestFlag};
 use plain::{

@@ -1,11 +1,43 @@
 //! Options of a command line: `--name`, `--name VALUE` and `--name=VALUE`.
 
+use std::io::{self, Write};
 use std::ops::RangeInclusive;
 use std::process::ExitCode;
 use std::slice::Iter;
 
 /// Exit status of a program whose command line can't be followed.
 const BAD_USAGE: u8 = 2;
+
+/// A program that has options and no commands.
+pub struct Program {
+    /// By which it speaks.
+    pub name: &'static str,
+    /// Its help.
+    pub help: &'static str,
+    /// The command that prints it.
+    pub help_command: &'static str,
+}
+
+impl Program {
+    /// Prints the help where a word asks for it, or else runs what the options
+    /// ask for.
+    pub fn start<T>(
+        &self,
+        asked: fn(Options<'_>) -> Result<T, String>,
+        run: fn(T) -> ExitCode,
+    ) -> ExitCode {
+        let words: Vec<String> = std::env::args().skip(1).collect();
+        if asks_for_help(&words) {
+            // Whoever reads it may stop when it has seen enough.
+            let _ = io::stdout().write_all(self.help.as_bytes());
+            return ExitCode::SUCCESS;
+        }
+        match asked(Options::new(&words)) {
+            Ok(asked) => run(asked),
+            Err(complaint) => refuse(self.name, &complaint, self.help_command),
+        }
+    }
+}
 
 /// Whether one of the words asks for help.
 pub fn asks_for_help(words: &[String]) -> bool {

@@ -6,7 +6,7 @@ use mathlib.Core.List.{map}
 use lib.ListN.{length, take, length-map, length-set}
 use borrow.Author.Needs.{needs}
 use native.Mathlib.Omega.{arith}
-use Rattle.box_grants.specs.Listed.{none}
+use Rattle.clock.specs.Spans.{none}
 use Rattle.face_words.specs.Laws.{fill-again, fill-done}
 use Rattle.face_box.specs.Box.{entryWord}
 use Rattle.face_box.proofs.entry_words.Statement.{statement}

@@ -6,7 +6,7 @@ use mathlib.Core.List.{List, map}
 use lib.ListN.{length, take, length-set}
 use borrow.Author.Needs.{needs}
 use native.Mathlib.Omega.{arith}
-use Rattle.box_grants.specs.declared.Entry.{Entry}
+use Rattle.clock.specs.declared.Span.{Span}
 use Rattle.face_words.specs.Laws.{fill-again, fill-done}
 use Rattle.face_box.specs.Box.{entryOf}
 use Rattle.face_box.proofs.list_of.Statement.{statement}
@@ -64,7 +64,7 @@ returns c =
     let a = l .before .before .args in
     let full : length (a .t2) ≡ 16 = omega arith in
     let e : l .loop .i ≡ 16 = omega arith in
-    ap (λ (es : List Entry). record { entries = es; number = a .number })
+    ap (λ (es : List Span). record { entries = es; number = a .number })
     (fill-done entryOf (a .t2) (l .loop .out) 16 (l .loop .inv .1) full (rw e at (l .loop .inv .2)))
 
 pub list-of-spec : {M : Type 1} → statement M

@@ -43,13 +43,12 @@ loop-less c = search needs
 loop-again : tie.Need-loop-again Inv-loop μ-loop
 loop-again c =
     let i = c .before .before .before in
-    let here = i .loop .inv in
-    (
+    let here = i .loop .inv in (
       here .0,
       walk-again fitted (i .before .before .args .b .now) (i .before .before .args .end) 0 _ _ _ _ (c .before .before .loop-test .taken)
-      (omega (arith, here .0 .0, here .0 .1))
-      (rw (c .lower .ensures))
-      (here .1),
+          (omega (arith, here .0 .0, here .0 .1))
+          (rw (c .lower .ensures))
+          (here .1),
     )
 
 returns : tie.Need-returns Inv-loop μ-loop

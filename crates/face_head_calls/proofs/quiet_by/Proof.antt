@@ -1,6 +1,6 @@
 -- `face_head_calls::quiet_by` meets its promise.
 -- Assumes nothing.
-use Rattle.face_head_calls.specs.Calls.{quietBy}
+use Rattle.face_head_calls.specs.Answered.{quietBy}
 use borrow.Author.Needs.{needs}
 use Rattle.face_head_calls.proofs.quiet_by.Statement.{statement}
 use Rattle.face_head_calls.proofs.quiet_by.Tie as tie

@@ -1,6 +1,6 @@
 -- `face_head_calls::tell` meets its promise.
 -- Assumes nothing.
-use Rattle.face_head_calls.specs.Calls.{toldOf}
+use Rattle.face_head_calls.specs.Answered.{toldOf}
 use borrow.Author.Needs.{needs}
 use Rattle.face_head_calls.proofs.tell.Statement.{statement}
 use Rattle.face_head_calls.proofs.tell.Tie as tie

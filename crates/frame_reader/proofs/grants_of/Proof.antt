@@ -7,7 +7,7 @@ use native.Mathlib.Omega.{arith}
 use lib.ListN.{take}
 use Rattle.frame.specs.declared.Grant.{Grant}
 use Rattle.frame.specs.declared.Grants.the-variants.{Four}
-use Rattle.frame_reader.specs.Decode.{few}
+use Rattle.frame_reader.specs.Flags.{few}
 use Rattle.frame_reader.proofs.grants_of.Statement.{statement}
 use Rattle.frame_reader.proofs.grants_of.Tie as tie
 

@@ -1,7 +1,7 @@
 -- `frame_reader::register_ack_flag` meets its promise.
 -- Assumes nothing.
 use borrow.Author.Tests.{eq-eqb, ne-eqb}
-use Rattle.frame_reader.specs.Decode.{registerAckFlagOf}
+use Rattle.frame_reader.specs.Flags.{registerAckFlagOf}
 use Rattle.frame_reader.proofs.register_ack_flag.Statement.{statement}
 use Rattle.frame_reader.proofs.register_ack_flag.Tie as tie
 

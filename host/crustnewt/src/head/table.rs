@@ -138,6 +138,29 @@ impl Table for VecTable {
 }
 
 impl Link {
+    /// A link that waits for this box's REGISTER_ACK, so many ticks more.
+    pub const fn waiting(address: u64, wait: u32) -> Link {
+        Link {
+            address,
+            state: LinkState::Waiting,
+            wait,
+            watchdog: 0,
+            periodic: 0,
+        }
+    }
+
+    /// A link that this registered box holds, with so many ticks left of its
+    /// timers.
+    pub const fn registered(address: u64, watchdog: u32, periodic: u32) -> Link {
+        Link {
+            address,
+            state: LinkState::Registered,
+            wait: 0,
+            watchdog,
+            periodic,
+        }
+    }
+
     /// What these words hold; `None` unless they are the very
     /// [`words`](Link::words) of some link. Whether it is sound is for the
     /// library to say.

@@ -1,4 +1,5 @@
-//! What makes a box sound ("Sound box"), and the one tick it may not make.
+//! What makes a box sound (R80 to R88), and the one tick it may not make
+//! (R113).
 
 use super::{BoxState, FloorBox};
 use crate::grants::Grant;

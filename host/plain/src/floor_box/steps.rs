@@ -27,8 +27,7 @@ impl FloorBox {
         }
     }
 
-    /// A discovery GATE acts only in REGISTERING with the transmitter at
-    /// rest. It doesn't touch the watchdog.
+    /// A discovery GATE (R106 to R109), which leaves the watchdog alone (R122).
     fn plan_discovery(&mut self, grant: Grant, sync: u32, random: u32) {
         if self.state != BoxState::Registering || self.light != Light::Rest {
             return;
@@ -43,8 +42,7 @@ impl FloorBox {
         self.light = Light::before(left, random % (spare + 1), sync);
     }
 
-    /// A normal GATE acts only in REGISTERED: it restarts the watchdog, and
-    /// its grants are taken while they are in reach and the list has room.
+    /// A normal GATE (R121 to R123).
     fn take_grants(&mut self, gate: &Gate, answer: &mut BoxAnswer) {
         if self.state != BoxState::Registered {
             return;
@@ -105,8 +103,7 @@ impl FloorBox {
         self.enter_wait();
     }
 
-    /// "Entering WAIT darkens the laser, disables transmission, empties the
-    /// list and stops all timers."
+    /// WAIT keeps nothing but address, count, port and sync (R88, R95).
     fn enter_wait(&mut self) {
         self.state = BoxState::Wait;
         self.wait = 0;
@@ -144,9 +141,8 @@ impl FloorBox {
         }
     }
 
-    /// What the ends of timers lead to: "registration timer, report timer,
-    /// transmitter, each judged on the state so far". A box that has just
-    /// entered WAIT has stopped the others.
+    /// What the ends of timers lead to, in their order (R136). A box that has
+    /// just entered WAIT has stopped the others.
     fn act_on_ended(&mut self, ended: Ended) -> BoxAnswer {
         let mut answer = BoxAnswer::default();
         if ended.registration {
@@ -211,7 +207,7 @@ impl FloorBox {
         Light::lit(grant.length, sync)
     }
 
-    /// "Activation, when at rest and REGISTERED, at the end of every call."
+    /// Activation (R125 to R132).
     pub(super) fn activate(&mut self) {
         if !self.has_to_choose() {
             return;
@@ -230,8 +226,7 @@ impl FloorBox {
         self.state == BoxState::Registered && self.light == Light::Rest && !self.grants.is_empty()
     }
 
-    /// "The box's frames go from its own address to 01-80-C2-00-00-01 with
-    /// its count."
+    /// Hands out a frame (R99).
     fn send(&self, body: Body, answer: &mut BoxAnswer) {
         answer.frames.push(frame::octets(&Message {
             to: Address::EVERYONE,

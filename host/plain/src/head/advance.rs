@@ -7,9 +7,8 @@ use crate::numbers::MOST_TICKS;
 use crate::refusal::Refusal;
 
 impl Head {
-    /// So many quanta pass, 1 to 65,536, or fewer: it stops after the first
-    /// tick that hands out a frame. A window that opens or closes stops
-    /// nothing.
+    /// So many quanta pass, 1 to 65,536, or fewer: a tick that sends a frame
+    /// is the last. The window may open and close on the way.
     pub fn advance(
         &mut self,
         links: &mut [Link],

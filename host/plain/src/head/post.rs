@@ -53,7 +53,7 @@ impl<'a> Post<'a> {
         }
     }
 
-    /// "To deregister is always what the deregister request does."
+    /// Drops whoever holds the link, for whatever reason (R186).
     pub(super) fn drop_link(&mut self, place: usize, link: &mut Link) {
         let body = register(place, RegisterFlag::Deregister, 0, 0);
         self.send(link.address, body);

@@ -3,7 +3,7 @@
 use crustnewt_core::{BoxReply, HeadCore, HeadReply};
 use plain::frame::FRAME_OCTETS;
 use plain::{
-    Body, BoxNotice, BoxState, FloorBox, Grant, HeadNoticeKind, Light, LinkState, Message, Window,
+    Body, BoxNotice, BoxState, FloorBox, Grant, HeadNoticeKind, LinkState, Message, Window,
 };
 use std::fmt::{self, Display};
 use std::io::{self, Write};
@@ -151,26 +151,13 @@ pub(super) fn box_state(out: &mut impl Write, state: &FloorBox) -> io::Result<()
     )?;
     write!(out, " {} {} {}", state.wait, state.watchdog, state.report)?;
     write!(out, " port {} sync {}", state.port, state.sync)?;
-    write!(out, " light {} {}", phase(&state.light), state.light.left())?;
+    write!(out, " light {} {}", state.light.name(), state.light.left())?;
     let grants = state.grants.as_slice();
     write!(out, " grants {}", grants.len())?;
     for grant in grants {
         write!(out, " {}", pair(*grant))?;
     }
     writeln!(out)
-}
-
-fn phase(light: &Light) -> &'static str {
-    match light {
-        Light::Rest => "rest",
-        Light::Before { .. } => "before",
-        Light::Random { .. } => "random",
-        Light::Warming { .. } => "warming",
-        Light::Asking { .. } => "asking",
-        Light::Due { .. } => "due",
-        Light::Lit { .. } => "lit",
-        Light::Open { .. } => "open",
-    }
 }
 
 /// Start and length.

@@ -7,7 +7,9 @@ use lib.ListN.{length, take, drop, length-map, length-take}
 use borrow.Author.Needs.{needs}
 use native.Mathlib.Omega.{arith}
 use Rattle.laws.specs.Walk.{walk-again, walk-done}
-use Rattle.box_grants.specs.Listed.{kept, listOf, none}
+use Rattle.clock.specs.Spans.{none}
+use Rattle.box_grants.specs.Listed.{listOf}
+use Rattle.box_grants.specs.Sifting.{kept}
 use Rattle.box_grants.specs.Laws.{keep-walk}
 use Rattle.box_grants.proofs.GrantList.ahead.Statement.{statement}
 use Rattle.box_grants.proofs.GrantList.ahead.Tie as tie

@@ -8,16 +8,16 @@ use lib.ListN.{length, take, drop, length-map}
 use borrow.Author.Needs.{needs}
 use native.Mathlib.Omega.{arith}
 use Rattle.laws.specs.Walk.{walk-again, walk-done}
-use Rattle.box_grants.specs.Activation.{same}
-use Rattle.box_grants.specs.Listed.{listOf, none}
+use Rattle.clock.specs.Spans.{none, same}
+use Rattle.clock.specs.declared.Span.{Span}
+use Rattle.box_grants.specs.Listed.{listOf}
 use Rattle.box_grants.specs.Laws.{holds-walk}
-use Rattle.box_grants.specs.declared.Entry.{Entry}
 use Rattle.box_grants.proofs.GrantList.holds.Statement.{statement}
 use Rattle.box_grants.proofs.GrantList.holds.Tie as tie
 
 abbrev Inv-loop : tie.InvT-loop
 Inv-loop e entries n met₀ i₀ met i =
-    (i ≤ n) × (n ≤ 16) × (foldl (λ (t : Bool) (x : Entry). t || same e x) met (drop i (take n entries)) ≡ foldl (λ (t : Bool) (x : Entry). t || same e x) met₀ (take n entries))
+    (i ≤ n) × (n ≤ 16) × (foldl (λ (t : Bool) (x : Span). t || same e x) met (drop i (take n entries)) ≡ foldl (λ (t : Bool) (x : Span). t || same e x) met₀ (take n entries))
 
 abbrev μ-loop : tie.MeasureT-loop
 μ-loop e entries n met₀ i₀ met i = n - i

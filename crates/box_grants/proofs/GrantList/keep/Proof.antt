@@ -1,7 +1,7 @@
 -- `box_grants::GrantList::keep` meets its promise.
 -- Assumes nothing.
 use borrow.Author.Needs.{needs}
-use Rattle.box_grants.specs.Listed.{kept}
+use Rattle.box_grants.specs.Sifting.{kept}
 use Rattle.box_grants.proofs.GrantList.keep.Statement.{statement}
 use Rattle.box_grants.proofs.GrantList.keep.Tie as tie
 

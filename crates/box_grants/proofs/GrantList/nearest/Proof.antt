@@ -7,7 +7,8 @@ use lib.ListN.{length, take, drop, getD, length-map}
 use borrow.Author.Needs.{needs}
 use native.Mathlib.Omega.{arith}
 use Rattle.laws.specs.Walk.{walk-again, walk-done}
-use Rattle.box_grants.specs.Listed.{nearerOf, listOf, none}
+use Rattle.clock.specs.Spans.{none, nearerOf}
+use Rattle.box_grants.specs.Listed.{listOf}
 use Rattle.box_grants.specs.Laws.{nearest-walk}
 use Rattle.box_grants.proofs.GrantList.nearest.Statement.{statement}
 use Rattle.box_grants.proofs.GrantList.nearest.Tie as tie

@@ -8,7 +8,8 @@ use lib.ListN.{length, take, drop, length-map}
 use borrow.Author.Needs.{needs}
 use native.Mathlib.Omega.{arith}
 use Rattle.laws.specs.Walk.{walk-again, walk-done}
-use Rattle.box_grants.specs.Listed.{listOf, none}
+use Rattle.clock.specs.Spans.{none}
+use Rattle.box_grants.specs.Listed.{listOf}
 use Rattle.box_grants.specs.Laws.{fitted, range-walk}
 use Rattle.box_grants.specs.Sound.{soundOf}
 use Rattle.box_grants.proofs.GrantList.sound.Statement.{statement}

@@ -7,7 +7,9 @@ use lib.ListN.{length, take, drop, length-map, length-take}
 use borrow.Author.Needs.{needs}
 use native.Mathlib.Omega.{arith}
 use Rattle.laws.specs.Walk.{walk-again, walk-done}
-use Rattle.box_grants.specs.Listed.{sifted, listOf, none}
+use Rattle.clock.specs.Spans.{none}
+use Rattle.box_grants.specs.Listed.{listOf}
+use Rattle.box_grants.specs.Sifting.{sifted}
 use Rattle.box_grants.specs.Laws.{sift-walk}
 use Rattle.box_grants.specs.declared.Sieve.{Sieve}
 use Rattle.box_grants.proofs.GrantList.without.Statement.{statement}

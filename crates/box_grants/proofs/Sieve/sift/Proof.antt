@@ -1,7 +1,7 @@
 -- `box_grants::Sieve::sift` meets its promise.
 -- Assumes nothing.
 use borrow.Author.Needs.{needs}
-use Rattle.box_grants.specs.Listed.{sifted}
+use Rattle.box_grants.specs.Sifting.{sifted}
 use Rattle.box_grants.proofs.Sieve.sift.Statement.{statement}
 use Rattle.box_grants.proofs.Sieve.sift.Tie as tie
 

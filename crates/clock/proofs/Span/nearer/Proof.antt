@@ -1,8 +1,8 @@
--- `box_grants::Entry::nearer` meets its promise.
+-- `clock::Span::nearer` meets its promise.
 -- Assumes nothing.
 use borrow.Author.Needs.{needs}
-use Rattle.box_grants.proofs.Entry.nearer.Statement.{statement}
-use Rattle.box_grants.proofs.Entry.nearer.Tie as tie
+use Rattle.clock.proofs.Span.nearer.Statement.{statement}
+use Rattle.clock.proofs.Span.nearer.Tie as tie
 
 nearer-requires : tie.Need-nearer-requires
 nearer-requires c κs = search needs

@@ -1,0 +1,47 @@
+-- Statement: sums 11 and 12, tick by tick (R215, R216).
+-- Assumes nothing.
+use Prim.Native.Nat.{ℕ, _≤_}
+use mathlib.Core.Path.{_≡_}
+use mathlib.Core.Bool.{Bool}
+use Rattle.clock.specs.Numbers.{needed}
+use Rattle.frame.specs.declared.Body.the-variants.{Gate}
+use Rattle.frame.specs.declared.Grant.{Grant}
+use Rattle.frame.specs.declared.Grants.{Grants}
+use Rattle.frame.specs.declared.Grants.the-variants.{One, Two}
+use Rattle.frame.specs.declared.Message.{Message}
+use Rattle.frame.specs.declared.Reply.the-variants.{Done}
+use Rattle.box_light.specs.Light.{laserOnFor}
+use Rattle.box_light.specs.declared.Light.the-variants.{Rest, Lit}
+use Rattle.box_registration.specs.declared.State.the-variants.{Registered}
+use Rattle.box_calls.specs.Hear.{hearOf}
+use Rattle.box_calls.specs.declared.FloorBox.{FloorBox}
+use Rattle.box_laws.specs.Stated.{Run}
+use Rattle.box_laws.specs.Served.{lightAt, Lights}
+
+-- a box that a run reaches, REGISTERED with sync 10, at rest and without a grant, accepts a GATE stamped 1000
+pub record Hears (b : FloorBox) (m : Message) (random : ℕ) (grants : Grants) : Type 0 where
+  pub reached : Run b
+  pub registered : b .processes .registration .state ≡ Registered
+  pub sync : b .processes .registration .sync ≡ record { 0 = 10 }
+  pub rest : b .processes .light ≡ Rest
+  pub empty : b .processes .list .number ≡ 0
+  pub count : m .timestamp ≡ record { 0 = 1000 }
+  pub body : m .body ≡ Gate grants
+  pub accepted : hearOf b m random .reply ≡ Done
+
+abbrev pub grant : ℕ → ℕ → Bool → Grant
+grant start length force = record { start = record { 0 = start }; length = record { 0 = length }; force = force }
+
+-- a grant at 1100 of length 200: the laser is on from 1100 until 1300, and transmission is enabled from 1142
+unfoldable pub SumEleven : Type 0
+SumEleven =
+    (b : FloorBox) (m : Message) (random : ℕ) (force : Bool) → Hears b m random (One (grant 1100 200 force))
+    → Lights 100 200 10 (hearOf b m random .next) × (lightAt 300 (hearOf b m random .next) ≡ Rest)
+
+-- beside it one at 1300 that serves: lit by the tick that ends the first
+unfoldable pub SumTwelve : Type 0
+SumTwelve =
+    (b : FloorBox) (m : Message) (random length : ℕ) (force other : Bool) → needed 10 ≤ length
+    → Hears b m random (Two (grant 1100 200 force) (grant 1300 length other))
+    → Lights 100 200 10 (hearOf b m random .next)
+    × (lightAt 300 (hearOf b m random .next) ≡ Lit (laserOnFor (record { 0 = 10 })) (record { 0 = length }) (record { 0 = 10 }))

@@ -1,0 +1,9 @@
+-- Code: the list of a box's words, as the code takes it in.
+-- Assumes nothing.
+use Prim.Native.Nat.{ℕ}
+use mathlib.Core.List.{List, map}
+use Rattle.box_grants.specs.declared.GrantList.{GrantList}
+use Rattle.face_box.specs.Box.{entryOf}
+
+abbrev pub listOf : ℕ → List ℕ → GrantList
+listOf number entries = record { entries = map entryOf entries; number = number }
