@@ -17,6 +17,7 @@ use Rattle.frame.specs.declared.Body.{Body}
 use Rattle.frame.specs.declared.Body.the-variants.{Gate, Discovery, Report, RegisterReq, Register, RegisterAck}
 use Rattle.frame.specs.declared.Grant.{Grant}
 use Rattle.frame.specs.declared.Message.{Message}
+use Rattle.frame.specs.declared.Reply.{Reply}
 use Rattle.frame.specs.declared.Reply.the-variants.{Done, Size, Kind, Opcode, Range, Direction, Link, State, Party, Held, Full, Output, Unsound, Window}
 use Rattle.frame_reader.specs.Decode.{readControl, readOf}
 use Rattle.frame_reader.proofs.Forth.{read-encode}
