@@ -55,6 +55,13 @@ fn a_true_list_is_silent() {
 }
 
 #[test]
+fn the_first_statement_is_counted_alone() {
+    let errors = errors("alone: 10 lines", "alone: 12 lines");
+    assert_eq!(errors.len(), 1);
+    assert!(errors[0].contains("should be: The promises and the first statement alone: 10 lines"));
+}
+
+#[test]
 fn numbers_are_held() {
     assert_eq!(
         errors("| 6 |", "| 7 |"),
