@@ -20,7 +20,7 @@ use Rattle.frame.specs.declared.RegisterReqFlag.{RegisterReqFlag}
 use Rattle.frame.specs.declared.RegisterReqFlag.the-variants as request
 use Rattle.laws.specs.Cases.{decided}
 use Rattle.frame_reader.specs.Flags.{registerReqFlagOf, registerFlagOf, registerAckFlagOf}
-use Rattle.face_frame.specs.Steps.{at}
+use Rattle.face_frame.specs.Tells.{at}
 
 -- a list's first ten words, and what stands behind them
 pub opened : (w : List ℕ) → 10 ≤ length w

@@ -1,4 +1,3 @@
 pub mod Message
 pub mod Tells
-pub mod Steps
 pub mod Laws

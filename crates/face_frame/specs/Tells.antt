@@ -4,7 +4,7 @@ use Prim.Native.Nat.{ℕ, _-_, _/_, _%_, _^_, min}
 use mathlib.Core.Bool.{Bool, cond}
 use mathlib.Core.List.{List, [], _∷_}
 use lib.Dec.{eqb}
-use lib.ListN.{take, drop}
+use lib.ListN.{take, drop, getD}
 use Rattle.frame_reader.specs.Flags.{few, registerReqFlagOf, registerFlagOf, registerAckFlagOf}
 use Rattle.frame.specs.declared.Body.{Body}
 use Rattle.frame.specs.declared.Body.the-variants.{Gate, Discovery, Report, RegisterReq, Register, RegisterAck}
@@ -12,6 +12,9 @@ use Rattle.frame.specs.declared.Grant.{Grant}
 use Rattle.frame.specs.declared.Message.{Message}
 use Rattle.face_frame.specs.Message.{messageWords}
 use Rattle.face_words.specs.Words.{same, upper, lower}
+
+abbrev pub at : List ℕ → ℕ → ℕ
+at w i = getD w i 0
 
 -- a word as a number of so many bits; one that is too large as the largest
 abbrev pub within : ℕ → ℕ → ℕ

@@ -20,8 +20,7 @@ use Rattle.face_words.specs.Laws.{same-is, same-self, joined-again}
 use Rattle.face_words.specs.Words.{lower}
 use Rattle.face_frame.specs.Laws.{two-tests, four-tests, req-flag-word, flag-word, ack-flag-word, req-flag-is, flag-is, ack-flag-is}
 use Rattle.face_frame.specs.Message.{kindOf, fieldsOf, messageWords}
-use Rattle.face_frame.specs.Steps.{at}
-use Rattle.face_frame.specs.Tells.{bodyOf, messageOf, isMessage}
+use Rattle.face_frame.specs.Tells.{at, bodyOf, messageOf, isMessage}
 use Rattle.frame_writer.specs.Write.{writeOf}
 use Rattle.face_frame_write.specs.Write.{writeLeft, writingOf, written}
 use Rattle.face_frame_write.specs.Steps.{laidOut, grantBytes, discoveryLaid, reportLaid, registerReqLaid, registerLaid, registerAckLaid}

@@ -40,8 +40,7 @@ use Rattle.frame_reader.proofs.Gate.{listed-few, listed-short}
 use Rattle.head_laws.specs.Pasted.{encode-length}
 use Rattle.face_words.specs.Laws.{same-is, same-self, upper-joined, lower-joined}
 use Rattle.face_frame.specs.Message.{kindOf, grantWord, fieldsOf, messageWords}
-use Rattle.face_frame.specs.Steps.{at}
-use Rattle.face_frame.specs.Tells.{within, grantOf, grantsOf, bodyOf, messageOf, isMessage}
+use Rattle.face_frame.specs.Tells.{at, within, grantOf, grantsOf, bodyOf, messageOf, isMessage}
 use Rattle.frame_writer.specs.Write.{writeOf}
 use Rattle.frame_writer.proofs.Page.{write-done}
 use Rattle.face_frame_read.specs.Read.{readLeft, readCall}

@@ -3,7 +3,7 @@
 use borrow.Author.Needs.{needs}
 use denote.Ref.{now}
 use Rattle.face_frame.specs.Laws.{first-ten}
-use Rattle.face_frame.specs.Steps.{at}
+use Rattle.face_frame.specs.Tells.{at}
 use Rattle.face_frame_write.proofs.Gate.{gate-page}
 use Rattle.face_frame_write.proofs.Page.{discovery-page, report-page, register-req-page, register-page, register-ack-page, no-page}
 use Rattle.face_frame_write.proofs.write_words.Statement.{statement}
