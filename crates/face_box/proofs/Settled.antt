@@ -7,8 +7,6 @@ use Rattle.face_box.proofs.front_words.Kinds as front-words-kinds
 use Rattle.face_box.proofs.front_words.Reads as front-words
 use Rattle.face_box.proofs.front_of.Kinds as front-of-kinds
 use Rattle.face_box.proofs.front_of.Reads as front-of
-use Rattle.face_box.proofs.entry_of.Kinds as entry-of-kinds
-use Rattle.face_box.proofs.entry_of.Reads as entry-of
 use Rattle.face_box.proofs.entries_in.Kinds as entries-in-kinds
 use Rattle.face_box.proofs.entries_in.Reads as entries-in
 use Rattle.face_box.proofs.pack.Kinds as pack-kinds
@@ -25,9 +23,6 @@ front-words-settles κs a e x y p q = p ∙ sym q
 
 pub front-of-settles : Settles 0 front-of-kinds.ps front-of-kinds.r front-of.Post
 front-of-settles κs a e x y p q = p ∙ sym q
-
-pub entry-of-settles : Settles 0 entry-of-kinds.ps entry-of-kinds.r entry-of.Post
-entry-of-settles κs a e x y p q = p ∙ sym q
 
 pub entries-in-settles : Settles 0 entries-in-kinds.ps entries-in-kinds.r entries-in.Post
 entries-in-settles κs a e x y p q = p ∙ sym q

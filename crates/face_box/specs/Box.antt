@@ -14,18 +14,11 @@ use Rattle.box_light.specs.declared.Light.the-variants.{Rest, Before, Random, W
 use Rattle.box_registration.specs.declared.Registration.{Registration}
 use Rattle.box_registration.specs.declared.State.{State}
 use Rattle.box_registration.specs.declared.State.the-variants.{Wait, Registering, RegisterReq, Registered}
-use Rattle.face_fields.specs.Fields.{shortOf, countOf, quantaOf, timerOf}
+use Rattle.face_fields.specs.Fields.{shortOf, countOf, quantaOf, timerOf, spanWord, spanOf}
 use Rattle.box_processes.specs.Parts.{fresh}
-use Rattle.face_words.specs.Words.{same, joined, upper, lower}
+use Rattle.face_words.specs.Words.{same}
 use Rattle.face_box.specs.declared.Front.{Front}
 use Rattle.face_box.specs.declared.LightWords.{LightWords}
-
--- a grant's start above its length: every word is one grant's, and every grant has one word
-abbrev pub entryWord : Span → ℕ
-entryWord e = joined (e .start .0) (e .length .0)
-
-abbrev pub entryOf : ℕ → Span
-entryOf w = record { start = record { 0 = upper w }; length = record { 0 = lower w } }
 
 abbrev pub stateWord : State → ℕ
 stateWord Wait = 0
@@ -58,7 +51,7 @@ lightWords (Before t random sync) = phaseWords 1 t (random .0) (sync .0)
 lightWords (Random t sync) = phaseWords 2 t 0 (sync .0)
 lightWords (Warming t) = phaseWords 3 t 0 0
 lightWords (Asking t) = phaseWords 4 t 0 0
-lightWords (Due t entry sync) = phaseWords 5 t (entryWord entry) (sync .0)
+lightWords (Due t entry sync) = phaseWords 5 t (spanWord entry) (sync .0)
 lightWords (Lit t length sync) = phaseWords 6 t (length .0) (sync .0)
 lightWords (Open t) = phaseWords 7 t 0 0
 
@@ -76,7 +69,7 @@ unfoldable pub lightOf : LightWords → Light
 lightOf w =
     let t = timerOf (w .left) in
     let sync = quantaOf (w .sync) in
-    cond (eqb (w .phase) 5) (Due t (entryOf (w .grant)) sync)
+    cond (eqb (w .phase) 5) (Due t (spanOf (w .grant)) sync)
     (cond (eqb (w .phase) 6) (Lit t (quantaOf (w .grant)) sync)
     (cond (eqb (w .phase) 7) (Open t) (discoveryOf w)))
 
@@ -127,11 +120,11 @@ boxed f entries =
 
 -- the words of a box
 unfoldable pub boxWords : FloorBox → List ℕ
-boxWords b = frontWords (frontIn b) ++ map entryWord (b .processes .list .entries)
+boxWords b = frontWords (frontIn b) ++ map spanWord (b .processes .list .entries)
 
 -- the box that words would tell if they were a box's
 unfoldable pub boxOf : List ℕ → FloorBox
-boxOf w = boxed (frontOf w) (map entryOf (drop 13 w))
+boxOf w = boxed (frontOf w) (map spanOf (drop 13 w))
 
 -- all of them are 0
 abbrev pub isClear : List ℕ → Bool

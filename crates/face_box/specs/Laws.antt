@@ -10,11 +10,12 @@ use lib.IntN.{ℤ}
 use lib.ListN.{length, replicate}
 use native.Mathlib.Omega.{arith}
 use Rattle.laws.specs.Cases.{either}
+use Rattle.face_fields.specs.Fields.{spanWord, spanOf}
 use Rattle.face_words.specs.Laws.{joined-again}
 use Rattle.box_telling.specs.Told.{isNothing}
 use Rattle.box_telling.specs.declared.Notice.{Notice}
 use Rattle.box_telling.specs.declared.Notices.{Notices}
-use Rattle.face_box.specs.Box.{entryWord, entryOf, isClear}
+use Rattle.face_box.specs.Box.{isClear}
 use Rattle.face_box.specs.Told.{ahead, listed, noticesWords, toldWords}
 
 -- words that are found clear are all 0
@@ -30,7 +31,7 @@ clear-of zero = refl
 clear-of (suc n) = clear-of n
 
 -- grants' words are what they were
-pub words-again : (l : List ℕ) → map entryWord (map entryOf l) ≡ l
+pub words-again : (l : List ℕ) → map spanWord (map spanOf l) ≡ l
 words-again [] = refl
 words-again (w ∷ l) = rw (joined-again w, words-again l)
 

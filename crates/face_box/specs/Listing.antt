@@ -3,7 +3,7 @@
 use Prim.Native.Nat.{ℕ}
 use mathlib.Core.List.{List, map}
 use Rattle.box_grants.specs.declared.GrantList.{GrantList}
-use Rattle.face_box.specs.Box.{entryOf}
+use Rattle.face_fields.specs.Fields.{spanOf}
 
 abbrev pub listOf : ℕ → List ℕ → GrantList
-listOf number entries = record { entries = map entryOf entries; number = number }
+listOf number entries = record { entries = map spanOf entries; number = number }

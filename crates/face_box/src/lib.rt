@@ -2,10 +2,11 @@
 ghost use mathlib.Core.Path.{_≡_};
 ghost use mathlib.Core.List.{map};
 ghost use lib.ListN.{drop};
-ghost use Rattle.face_box.specs.Box.{entryWord, entryOf, stateWord, stateOf, registrationOf, phaseWords, lightWords, discoveryOf, lightOf, frontWords, frontOf, boxed, isClear, hasWords, boxWords, nobody, boxIn};
+ghost use Rattle.face_box.specs.Box.{stateWord, stateOf, registrationOf, phaseWords, lightWords, discoveryOf, lightOf, frontWords, frontOf, boxed, isClear, hasWords, boxWords, nobody, boxIn};
 ghost use Rattle.face_box.specs.Listing.{listOf};
 ghost use Rattle.face_box.specs.Laying.{howMany, layout};
 ghost use Rattle.face_box.specs.Told.{kindWords, noticeWords, toldWords};
+ghost use Rattle.face_fields.specs.Fields.{spanWord, spanOf};
 ghost use Rattle.face_words.specs.Words.{laid};
 use box_calls::FloorBox;
 use box_grants::GrantList;
@@ -16,8 +17,6 @@ use box_registration::State;
 use box_telling::Notice;
 use box_telling::Notices;
 use clock::Count;
-use clock::Quanta;
-use clock::Span;
 use clock::Timer;
 use frame::Address;
 
@@ -46,33 +45,15 @@ pub struct Front {
     pub number: usize,
 }
 
-// A grant's start above its length.
-fn entry_word(e: Span) -> u64
-    ensures { λ r. ⌜ r ≡ entryWord e ⌝ }
-{
-    let start = e.start;
-    let length = e.length;
-    face_words::join(start.0, length.0)
-}
-
-pub fn entry_of(word: u64) -> Span
-    ensures { λ r. ⌜ r ≡ entryOf word ⌝ }
-{
-    Span {
-        start: Count(face_words::upper(word)),
-        length: Quanta(face_words::lower(word)),
-    }
-}
-
 fn entry_words(list: GrantList) -> [u64; 16]
-    ensures { λ r. ⌜ r ≡ map entryWord (list .entries) ⌝ }
+    ensures { λ r. ⌜ r ≡ map spanWord (list .entries) ⌝ }
 {
     let entries = list.entries;
     let mut out = [0u64; 16];
     let mut i = 0;
     while i < GrantList::ROOM {
         let e = entries[i];
-        out[i] = entry_word(e);
+        out[i] = face_fields::span_word(e);
         i += 1;
     }
     out
@@ -81,10 +62,10 @@ fn entry_words(list: GrantList) -> [u64; 16]
 fn list_of(number: usize, entries: [u64; 16]) -> GrantList
     ensures { λ r. ⌜ r ≡ listOf number entries ⌝ }
 {
-    let mut out = [entry_of(0); 16];
+    let mut out = [face_fields::span_of(0); 16];
     let mut i = 0;
     while i < GrantList::ROOM {
-        let e = entry_of(entries[i]);
+        let e = face_fields::span_of(entries[i]);
         out[i] = e;
         i += 1;
     }
@@ -165,7 +146,12 @@ fn light_words(light: Light) -> LightWords
         Light::Random { timer, sync } => phase(2, timer, 0, sync.0 as u64),
         Light::Warming { timer } => phase(3, timer, 0, 0),
         Light::Asking { timer } => phase(4, timer, 0, 0),
-        Light::Due { timer, entry, sync } => phase(5, timer, entry_word(entry), sync.0 as u64),
+        Light::Due { timer, entry, sync } => phase(
+            5,
+            timer,
+            face_fields::span_word(entry),
+            sync.0 as u64,
+        ),
         Light::Lit {
             timer,
             length,
@@ -211,7 +197,7 @@ fn light_of(w: LightWords) -> Light
     if phase == 5 {
         return Light::Due {
             timer,
-            entry: entry_of(grant),
+            entry: face_fields::span_of(grant),
             sync,
         };
     }
@@ -341,7 +327,7 @@ fn nobody() -> FloorBox
 
 // The box with this front and the list's sixteen places.
 fn box_with(front: Front, entries: [u64; 16]) -> FloorBox
-    ensures { λ r. ⌜ r ≡ boxed front (map entryOf entries) ⌝ }
+    ensures { λ r. ⌜ r ≡ boxed front (map spanOf entries) ⌝ }
 {
     let address = front.address;
     let count = front.count;

@@ -11,11 +11,11 @@ use lib.Dec.{eqb, leb}
 use lib.ListN.{length, take, drop}
 use lib.Seq.{take-take, drop-drop, take-add}
 use Rattle.laws.specs.Cases.{cut}
-use Rattle.face_box.specs.Box.{entryOf, stateWord, stateOf, registrationOf, lightWords, discoveryOf as discovering, lightOf as lighting, frontWords, frontOf, isClear, hasWords, isBox, boxOf, boxIn}
+use Rattle.face_box.specs.Box.{stateWord, stateOf, registrationOf, lightWords, discoveryOf as discovering, lightOf as lighting, frontWords, frontOf, isClear, hasWords, isBox, boxOf, boxIn}
 use Rattle.face_box.specs.Listing.{listOf}
 use Rattle.clock.specs.Timers.{runs, quietOf as timerQuiet}
 use Rattle.clock.specs.Spans.{same}
-use Rattle.face_fields.specs.Fields.{timerOf, quantaOf}
+use Rattle.face_fields.specs.Fields.{timerOf, quantaOf, spanOf}
 use Rattle.face_words.specs.Words.{upper, lower}
 use Rattle.box_calls.specs.Box.{soundOf}
 use Rattle.box_calls.specs.Pass.{quietOf}
@@ -86,7 +86,7 @@ own-is a c p y =
     (cut c 4294967296)
 
 -- lengths and places of grants, over their words
-shorts : (n : ℕ) (l : List ℕ) → inRange (take n (map entryOf l)) ≡ areShort (take n l)
+shorts : (n : ℕ) (l : List ℕ) → inRange (take n (map spanOf l)) ≡ areShort (take n l)
 shorts zero l = refl
 shorts (suc n) [] = refl
 shorts (suc n) (x ∷ l) = rw (shorts n l)
@@ -98,7 +98,7 @@ equal a b =
     ⊎-elim (λ (k : b < a). inr (omega arith)) (λ (k : a ≤ b). inl (omega arith)) (cut b a))
     (cut a b)
 
-word-same : (g x : ℕ) → same (entryOf g) (entryOf x) ≡ eqb x g
+word-same : (g x : ℕ) → same (spanOf g) (spanOf x) ≡ eqb x g
 word-same g x =
     ⊎-elim (λ (h : x < g). other (omega arith))
     (λ (h : g ≤ x).
@@ -109,13 +109,13 @@ word-same g x =
     (cut g x))
     (cut x g)
   where
-    other : (x ≡ g → ⊥) → same (entryOf g) (entryOf x) ≡ eqb x g
+    other : (x ≡ g → ⊥) → same (spanOf g) (spanOf x) ≡ eqb x g
     other h =
         ⊎-elim (λ (k : upper g ≡ upper x). rw (ne-eqb x g h, ne-eqb (lower g) (lower x) (λ e. h (omega arith))) (and-false (eqb (upper g) (upper x))))
         (λ (k : upper g ≡ upper x → ⊥). rw (ne-eqb x g h, ne-eqb (upper g) (upper x) k))
         (equal (upper g) (upper x))
 
-among : (g n : ℕ) (l : List ℕ) → holds (entryOf g) (take n (map entryOf l)) ≡ isAmong g (take n l)
+among : (g n : ℕ) (l : List ℕ) → holds (spanOf g) (take n (map spanOf l)) ≡ isAmong g (take n l)
 among g zero l = refl
 among g (suc n) [] = refl
 among g (suc n) (x ∷ l) = rw (word-same g x, among g n l)
@@ -143,7 +143,7 @@ all-short (suc n) (x ∷ l) = by-first (leb (lower x) 65535) (all-short n l)
 
 -- a grant that is waited for is one of the list
 abbrev waited : ℕ → ℕ → GrantList → Bool
-waited p g s = cond (eqb p 5) (holds (entryOf g) (heldIn s)) true
+waited p g s = cond (eqb p 5) (holds (spanOf g) (heldIn s)) true
 
 picked : (c s d : Bool) → cond (c && s) d false ≡ ((c && (s && true)) && d)
 picked false s d = refl
@@ -218,7 +218,7 @@ module _ (l g y : ℕ) (s : GrantList) where
 
   due : Judges 5
   unfolding lighting
-  due = (swapped (runs (timerOf l) (2 ^ 31 - 1)) (holds (entryOf g) (heldIn s)) (served (entryOf g .length) (quantaOf y)), λ _. refl)
+  due = (swapped (runs (timerOf l) (2 ^ 31 - 1)) (holds (spanOf g) (heldIn s)) (served (spanOf g .length) (quantaOf y)), λ _. refl)
 
   judges : (p : ℕ) → 1 ≤ p → Judges p
   judges p h =

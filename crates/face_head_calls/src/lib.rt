@@ -4,16 +4,15 @@ ghost use Prim.Native.Nat.{_≤_};
 ghost use lib.ListN.{getD, replicate};
 ghost use Rattle.face_head_calls.specs.Answered.{answerLeft, toldOf, answeredOf, quietBy};
 ghost use Rattle.face_head_calls.specs.Calls.{left, begunLeft, advanceLeft, told, isLent, laidHead, keptHead, begunHead, refusedOf, servedOf, heardOf, begunOf, advancedOf, advanceCall};
-ghost use Rattle.face_head_calls.specs.Gate.{leaveOf, askedOf};
+ghost use Rattle.face_head_calls.specs.Gate.{askedOf};
 ghost use Rattle.face_head_calls.specs.Lend.{keptOf, lendLeft, lendOf, clearLeft, clearOf};
 ghost use Rattle.face_head_pass.specs.Quiet.{untilCall};
 ghost use Rattle.face_head.specs.Table.{linksIn};
 ghost use Rattle.head_judging.specs.Judge.{hasRoom};
 ghost use Rattle.head_judging.specs.declared.Call.{Call as Called};
 ghost use Rattle.head_links.specs.Link.{idle};
+ghost use Rattle.face_fields.specs.Fields.{spanOf};
 ghost use Rattle.face_words.specs.Words.{laid};
-use clock::Count;
-use clock::Quanta;
 use clock::Span;
 use face_words::SHORT;
 use frame::Address;
@@ -239,24 +238,14 @@ pub fn begun(address: Address, head: &mut [u64], links: &mut [u64], reply: &mut 
     SHORT
 }
 
-// A grant is one word: its start above its length.
-fn leave_of(word: u64) -> Span
-    ensures { λ r. ⌜ r ≡ leaveOf word ⌝ }
-{
-    Span {
-        start: Count(face_words::upper(word)),
-        length: Quanta(face_words::lower(word)),
-    }
-}
-
 // A grant that isn't there is one of start 0, length 0.
-fn leave_at(grants: &[u64], i: usize) -> Span
-    ensures { λ r. ⌜ r ≡ leaveOf (getD (now (grants .entry)) i 0) ⌝ }
+fn span_at(grants: &[u64], i: usize) -> Span
+    ensures { λ r. ⌜ r ≡ spanOf (getD (now (grants .entry)) i 0) ⌝ }
 {
     if i < grants.len() {
-        return leave_of(grants[i]);
+        return face_fields::span_of(grants[i]);
     }
-    leave_of(0)
+    face_fields::span_of(0)
 }
 
 // What a gate request asks for, one word a grant.
@@ -265,10 +254,10 @@ pub fn asked(grants: &[u64], force: u8) -> Asked
 {
     Asked {
         number: grants.len(),
-        first: leave_at(grants, 0),
-        second: leave_at(grants, 1),
-        third: leave_at(grants, 2),
-        fourth: leave_at(grants, 3),
+        first: span_at(grants, 0),
+        second: span_at(grants, 1),
+        third: span_at(grants, 2),
+        fourth: span_at(grants, 3),
         force,
     }
 }

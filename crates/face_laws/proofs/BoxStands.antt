@@ -27,7 +27,8 @@ use Rattle.box_laws.specs.Calls.{Outcome, unsound, refuses, accepts, outcome, r
 use Rattle.box_laws.specs.Stated.{Call, answer, Unchanged}
 use Rattle.face_words.specs.Laws.{same-is}
 use Rattle.face_words.specs.Words.{same}
-use Rattle.face_box.specs.Box.{entryOf, discoveryOf, lightOf, frontWords, frontOf, boxWords, boxOf, isClear, hasWords, isBox, nobody, boxIn}
+use Rattle.face_box.specs.Box.{discoveryOf, lightOf, frontWords, frontOf, boxWords, boxOf, isClear, hasWords, isBox, nobody, boxIn}
+use Rattle.face_fields.specs.Fields.{spanOf}
 use Rattle.face_box.specs.Laws.{clear-is, words-again}
 use Rattle.face_box.specs.Told.{listed, toldWords}
 use Rattle.face_box.specs.declared.LightWords.{LightWords}
@@ -37,7 +38,7 @@ use Rattle.face_laws.specs.Box.{EntriesFit, LightFits, Fits, Words, Stan
 use Rattle.face_laws.proofs.RoundTrip.{drop-map, map-all, unpacked}
 
 -- WORDS THAT ARE A BOX'S are the words of what they tell, and that fits
-entries-fit : (l : List ℕ) → EntriesFit (map entryOf l)
+entries-fit : (l : List ℕ) → EntriesFit (map spanOf l)
 entries-fit [] = tt
 entries-fit (x ∷ l) = (omega arith, entries-fit l)
 
@@ -65,14 +66,14 @@ module _ (w : List ℕ) (n : length w ≡ 29) (h : isBox w ≡ true) where
   sixteen : length (drop 13 w) ≡ 16
   sixteen = simp length-drop (omega (arith, n))
 
-  behind : drop (frontOf w .number) (map entryOf (drop 13 w)) ≡ replicate (16 - frontOf w .number) none
+  behind : drop (frontOf w .number) (map spanOf (drop 13 w)) ≡ replicate (16 - frontOf w .number) none
   behind =
       let k = frontOf w .number in
       let rest = drop k (drop 13 w) in
       let long : length rest ≡ 16 - k = length-drop k (drop 13 w) ∙ ap (λ (m : ℕ). m - k) sixteen in
-      drop-map entryOf k (drop 13 w)
-      ∙ ap (map entryOf) (clear-is rest (parts .1) ∙ ap (λ (m : ℕ). replicate m 0) long)
-      ∙ map-all entryOf (16 - k) 0
+      drop-map spanOf k (drop 13 w)
+      ∙ ap (map spanOf) (clear-is rest (parts .1) ∙ ap (λ (m : ℕ). replicate m 0) long)
+      ∙ map-all spanOf (16 - k) 0
 
   fits : Fits (boxOf w)
   unfolding boxOf frontOf
@@ -86,7 +87,7 @@ module _ (w : List ℕ) (n : length w ≡ 29) (h : isBox w ≡ true) where
         sync = omega arith;
         entries = entries-fit (drop 13 w);
         light = light-fits _;
-        places = length-map (drop 13 w) entryOf ∙ sixteen;
+        places = length-map (drop 13 w) spanOf ∙ sixteen;
         behind = behind;
       }
 

@@ -9,7 +9,8 @@ use native.Mathlib.Omega.{arith}
 use lib.Dec.{eqb}
 use lib.ListN.{length, drop, replicate, length-append, length-drop, length-map}
 use lib.Seq.{take-at}
-use Rattle.face_box.specs.Box.{entryWord, frontWords, boxWords, boxIn}
+use Rattle.face_box.specs.Box.{frontWords, boxWords, boxIn}
+use Rattle.face_fields.specs.Fields.{spanWord}
 use Rattle.face_box_calls.specs.Calls.{wordsAt, boxAt, isLent, handed, settled, boxCall}
 use Rattle.box_calls.specs.declared.Answer.{Answer}
 use Rattle.box_calls.specs.declared.FloorBox.{FloorBox}
@@ -25,7 +26,7 @@ Sixteen b = length (b .processes .list .entries) ≡ 16
 
 pub size : (b : FloorBox) → Sixteen b → length (boxWords b) ≡ 29
 unfolding boxWords frontWords
-size b h = rw (length-map (b .processes .list .entries) entryWord, h)
+size b h = rw (length-map (b .processes .list .entries) spanWord, h)
 
 -- a box laid into a block is there, word for word
 pub words-stand : (b : FloorBox) (block : List ℕ) → Sixteen b → 29 ≤ length block → wordsAt (laid (boxWords b) block) ≡ boxWords b

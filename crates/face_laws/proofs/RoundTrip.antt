@@ -19,9 +19,9 @@ use Rattle.box_registration.specs.declared.State.{State}
 use Rattle.box_registration.specs.declared.State.the-variants.{Wait, Registering, RegisterReq, Registered}
 use Rattle.face_words.specs.Laws.{same-self, upper-joined, lower-joined}
 use Rattle.face_words.specs.Words.{narrowed}
-use Rattle.face_box.specs.Box.{entryWord, entryOf, stateWord, stateOf, registrationOf, lightWords, discoveryOf, lightOf, frontWords, frontOf, frontIn, boxWords, boxOf, hasWords, isBox, boxIn}
+use Rattle.face_box.specs.Box.{stateWord, stateOf, registrationOf, lightWords, discoveryOf, lightOf, frontWords, frontOf, frontIn, boxWords, boxOf, hasWords, isBox, boxIn}
 use Rattle.face_box.specs.Laws.{clear-of}
-use Rattle.face_fields.specs.Fields.{timerOf, quantaOf, shortOf}
+use Rattle.face_fields.specs.Fields.{timerOf, quantaOf, shortOf, spanWord, spanOf}
 use Rattle.face_laws.specs.Box.{TimerFits, QuantaFit, EntryFits, EntriesFit, LightFits, Fits}
 
 pub narrow-is : (n : ℕ) → n < 2 ^ 32 → narrowed n ≡ n
@@ -33,10 +33,10 @@ timer-back t h = rw (narrow-is (t .left) h)
 pub quanta-back : (q : Quanta) → QuantaFit q → quantaOf (q .0) ≡ q
 quanta-back q h = rw (narrow-is (q .0) h)
 
-entry-back : (e : Span) → EntryFits e → entryOf (entryWord e) ≡ e
+entry-back : (e : Span) → EntryFits e → spanOf (spanWord e) ≡ e
 entry-back e h = rw (upper-joined (e .start .0) (e .length .0) h, lower-joined (e .start .0) (e .length .0) h)
 
-entries-back : (es : List Span) → EntriesFit es → map entryOf (map entryWord es) ≡ es
+entries-back : (es : List Span) → EntriesFit es → map spanOf (map spanWord es) ≡ es
 entries-back [] h = refl
 entries-back (e ∷ es) h = rw (entry-back e (h .0), entries-back es (h .1))
 
@@ -89,7 +89,7 @@ front-words : (b : FloorBox) → take 13 (boxWords b) ≡ frontWords (frontIn b)
 unfolding boxWords frontWords
 front-words b = refl
 
-grant-words : (b : FloorBox) → drop 13 (boxWords b) ≡ map entryWord (b .processes .list .entries)
+grant-words : (b : FloorBox) → drop 13 (boxWords b) ≡ map spanWord (b .processes .list .entries)
 unfolding boxWords frontWords
 grant-words b = refl
 
@@ -113,9 +113,9 @@ is-box b h =
       front-words b,
       same-self (frontWords (frontIn b)),
       grant-words b,
-      drop-map entryWord (s .number) (s .entries),
+      drop-map spanWord (s .number) (s .entries),
       h .behind,
-      map-all entryWord (16 - s .number) none,
+      map-all spanWord (16 - s .number) none,
     )
     (clear-of (16 - s .number))
 

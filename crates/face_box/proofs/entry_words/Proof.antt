@@ -8,12 +8,12 @@ use borrow.Author.Needs.{needs}
 use native.Mathlib.Omega.{arith}
 use Rattle.clock.specs.Spans.{none}
 use Rattle.face_words.specs.Laws.{fill-again, fill-done}
-use Rattle.face_box.specs.Box.{entryWord}
+use Rattle.face_fields.specs.Fields.{spanWord}
 use Rattle.face_box.proofs.entry_words.Statement.{statement}
 use Rattle.face_box.proofs.entry_words.Tie as tie
 
 abbrev Inv-loop : tie.InvT-loop
-Inv-loop entries out₀ i₀ out i = (i ≤ 16) × (length out ≡ 16) × (take i out ≡ take i (map entryWord entries))
+Inv-loop entries out₀ i₀ out i = (i ≤ 16) × (length out ≡ 16) × (take i out ≡ take i (map spanWord entries))
 
 abbrev μ-loop : tie.MeasureT-loop
 μ-loop entries out₀ i₀ out i = 16 - i
@@ -31,8 +31,8 @@ mul-e c = search needs
 array-copy-out-e : tie.Need-array-copy-out-e Inv-loop μ-loop
 array-copy-out-e c = search needs
 
-entry-word-requires : tie.Need-entry-word-requires Inv-loop μ-loop
-entry-word-requires c κs = search needs
+span-word-requires : tie.Need-span-word-requires Inv-loop μ-loop
+span-word-requires c κs = search needs
 
 mul-out : tie.Need-mul-out Inv-loop μ-loop
 mul-out c = search needs
@@ -56,7 +56,7 @@ loop-again c =
     let o : l .loop .i < length (l .loop .out) = omega arith in (
       omega arith,
       simp length-set (l .loop .inv .1),
-      fill-again entryWord (s .args .list .entries) (l .loop .out) none (l .loop .i) _ x o (c .entry-word .ensures) (l .loop .inv .2),
+      fill-again spanWord (s .args .list .entries) (l .loop .out) none (l .loop .i) _ x o (c .span-word .ensures) (l .loop .inv .2),
     )
 
 returns : tie.Need-returns Inv-loop μ-loop
@@ -64,7 +64,7 @@ returns c =
     let l = c .before in
     let s = l .before .before in
     let e : l .loop .i ≡ 16 = omega arith in
-    fill-done entryWord (s .args .list .entries) (l .loop .out) 16 (l .loop .inv .1) (sixteen s) (rw e at (l .loop .inv .2))
+    fill-done spanWord (s .args .list .entries) (l .loop .out) 16 (l .loop .inv .1) (sixteen s) (rw e at (l .loop .inv .2))
 
 pub entry-words-spec : {M : Type 1} → statement M
 entry-words-spec =
@@ -75,7 +75,7 @@ entry-words-spec =
     loop-holds
     mul-e
     array-copy-out-e
-    entry-word-requires
+    span-word-requires
     mul-out
     array-write-out
     add-i

@@ -12,12 +12,12 @@ timer-of-requires c κs = search needs
 quanta-of-requires : tie.Need-quanta-of-requires
 quanta-of-requires c κs = search needs
 
-entry-of-requires : tie.Need-entry-of-requires
-entry-of-requires c κs = search needs
+span-of-requires : tie.Need-span-of-requires
+span-of-requires c κs = search needs
 
 returns : tie.Need-returns
 unfolding lightOf
-returns c = rw (c .entry-of .ensures, ← c .before .before .before .timer-of .ensures, ← c .before .before .quanta-of .ensures, eq-eqb _ _ (c .before .if1 .taken))
+returns c = rw (c .span-of .ensures, ← c .before .before .before .timer-of .ensures, ← c .before .before .quanta-of .ensures, eq-eqb _ _ (c .before .if1 .taken))
 
 quanta-of-requires-2 : tie.Need-quanta-of-requires-2
 quanta-of-requires-2 c κs = search needs
@@ -43,7 +43,7 @@ light-of-spec =
     (tie.spec
     timer-of-requires
     quanta-of-requires
-    entry-of-requires
+    span-of-requires
     returns
     quanta-of-requires-2
     returns-2

@@ -49,8 +49,8 @@ phase-requires-5 c κs = search needs
 enum-known-light-5 : tie.Need-enum-known-light-5
 enum-known-light-5 c = search needs
 
-entry-word-requires : tie.Need-entry-word-requires
-entry-word-requires c κs = search needs
+span-word-requires : tie.Need-span-word-requires
+span-word-requires c κs = search needs
 
 cast-phase-4 : tie.Need-cast-phase-4
 cast-phase-4 c = search needs
@@ -92,7 +92,7 @@ returns-5 : tie.Need-returns-5
 returns-5 c = rw (c .phase5 .ensures, c .before .before .light4 .given .1)
 
 returns-6 : tie.Need-returns-6
-returns-6 c = rw (c .phase6 .ensures, c .before .before .entry-word .ensures, c .before .before .before .before .light5 .given .1)
+returns-6 c = rw (c .phase6 .ensures, c .before .before .span-word .ensures, c .before .before .before .before .light5 .given .1)
 
 returns-7 : tie.Need-returns-7
 returns-7 c = rw (c .phase7 .ensures, c .before .before .before .before .light6 .given .1)
@@ -119,7 +119,7 @@ light-words-spec =
     enum-known-light-4
     phase-requires-5
     enum-known-light-5
-    entry-word-requires
+    span-word-requires
     cast-phase-4
     phase-requires-6
     enum-known-light-6

@@ -8,30 +8,30 @@ use borrow.Author.Needs.{needs}
 use native.Mathlib.Omega.{arith}
 use Rattle.clock.specs.declared.Span.{Span}
 use Rattle.face_words.specs.Laws.{fill-again, fill-done}
-use Rattle.face_box.specs.Box.{entryOf}
+use Rattle.face_fields.specs.Fields.{spanOf}
 use Rattle.face_box.proofs.list_of.Statement.{statement}
 use Rattle.face_box.proofs.list_of.Tie as tie
 
 abbrev Inv-loop : tie.InvT-loop
-Inv-loop number entries out₀ i₀ out i = (i ≤ 16) × (length out ≡ 16) × (take i out ≡ take i (map entryOf entries))
+Inv-loop number entries out₀ i₀ out i = (i ≤ 16) × (length out ≡ 16) × (take i out ≡ take i (map spanOf entries))
 
 abbrev μ-loop : tie.MeasureT-loop
 μ-loop number entries out₀ i₀ out i = 16 - i
 
-entry-of-requires : tie.Need-entry-of-requires Inv-loop μ-loop
-entry-of-requires c κs = search needs
+span-of-requires : tie.Need-span-of-requires Inv-loop μ-loop
+span-of-requires c κs = search needs
 
 loop-holds : tie.Need-loop-holds Inv-loop μ-loop
 loop-holds c = (omega arith, refl, refl)
 
-mul-entry-of : tie.Need-mul-entry-of Inv-loop μ-loop
-mul-entry-of c = search needs
+mul-span-of : tie.Need-mul-span-of Inv-loop μ-loop
+mul-span-of c = search needs
 
-array-read-entry-of : tie.Need-array-read-entry-of Inv-loop μ-loop
-array-read-entry-of c = search needs
+array-read-span-of : tie.Need-array-read-span-of Inv-loop μ-loop
+array-read-span-of c = search needs
 
-entry-of-requires-2 : tie.Need-entry-of-requires-2 Inv-loop μ-loop
-entry-of-requires-2 c κs = search needs
+span-of-requires-2 : tie.Need-span-of-requires-2 Inv-loop μ-loop
+span-of-requires-2 c κs = search needs
 
 mul-out : tie.Need-mul-out Inv-loop μ-loop
 mul-out c = search needs
@@ -55,7 +55,7 @@ loop-again c =
     let o : l .loop .i < length (l .loop .out) = omega arith in (
       omega arith,
       simp length-set (l .loop .inv .1),
-      fill-again entryOf (a .t2) (l .loop .out) 0 (l .loop .i) _ x o (c .entry-of2 .ensures) (l .loop .inv .2),
+      fill-again spanOf (a .t2) (l .loop .out) 0 (l .loop .i) _ x o (c .span-of2 .ensures) (l .loop .inv .2),
     )
 
 returns : tie.Need-returns Inv-loop μ-loop
@@ -65,7 +65,7 @@ returns c =
     let full : length (a .t2) ≡ 16 = omega arith in
     let e : l .loop .i ≡ 16 = omega arith in
     ap (λ (es : List Span). record { entries = es; number = a .number })
-    (fill-done entryOf (a .t2) (l .loop .out) 16 (l .loop .inv .1) full (rw e at (l .loop .inv .2)))
+    (fill-done spanOf (a .t2) (l .loop .out) 16 (l .loop .inv .1) full (rw e at (l .loop .inv .2)))
 
 pub list-of-spec : {M : Type 1} → statement M
 list-of-spec =
@@ -73,11 +73,11 @@ list-of-spec =
     (tie.spec
     Inv-loop
     μ-loop
-    entry-of-requires
+    span-of-requires
     loop-holds
-    mul-entry-of
-    array-read-entry-of
-    entry-of-requires-2
+    mul-span-of
+    array-read-span-of
+    span-of-requires-2
     mul-out
     array-set-from-out
     add-i

@@ -1,8 +1,8 @@
--- `face_box::entry_of` meets its promise.
+-- `face_fields::span_of` meets its promise.
 -- Assumes nothing.
 use borrow.Author.Needs.{needs}
-use Rattle.face_box.proofs.entry_of.Statement.{statement}
-use Rattle.face_box.proofs.entry_of.Tie as tie
+use Rattle.face_fields.proofs.span_of.Statement.{statement}
+use Rattle.face_fields.proofs.span_of.Tie as tie
 
 upper-requires : tie.Need-upper-requires
 upper-requires c κs = search needs
@@ -13,5 +13,5 @@ lower-requires c κs = search needs
 returns : tie.Need-returns
 returns c = rw (c .lower .ensures, c .before .upper .ensures)
 
-pub entry-of-spec : {M : Type 1} → statement M
-entry-of-spec = tie.close (tie.spec upper-requires lower-requires returns)
+pub span-of-spec : {M : Type 1} → statement M
+span-of-spec = tie.close (tie.spec upper-requires lower-requires returns)
