@@ -7,7 +7,7 @@ use mathlib.Core.List.{List, [], _∷_}
 use mathlib.Core.Logic.{_≢_}
 use native.Mathlib.Omega.{arith}
 use lib.ListN.{length}
-use Rattle.frame.specs.Card.{Test, given, numberOf, answerOf}
+use Rattle.frame.specs.Card.{Test, given, numberOf, answerOf, _unless_}
 use Rattle.frame.specs.Tests.{Passed}
 use Rattle.frame.specs.declared.Reply.{Reply}
 use Rattle.frame.specs.declared.Reply.the-variants.{Done, Output, Unsound}

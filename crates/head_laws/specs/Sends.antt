@@ -1,5 +1,7 @@
 -- Lemmas: what a link sends at a tick or a change, and what the head itself sends, is in range.
 -- Assumes nothing.
+use Rattle.head_table.specs.declared.Event.{Event}
+use Rattle.head_links.specs.declared.Change.{Change}
 use Prim.Native.Nat.{ℕ, _^_, _<_}
 use mathlib.Core.Path.{_≡_, refl}
 use mathlib.Core.Bool.{true, and-eq-true-iff}
