@@ -1,6 +1,5 @@
 -- Lemmas: a call that is no tick changes at most the link that it is about, and a rejection none.
 -- Assumes nothing.
-use Rattle.head_links.specs.Link.{idle}
 use Prim.Native.Nat.{ℕ, suc, _≤_}
 use mathlib.Core.Path.{_≡_, refl, sym, ap, _∙_}
 use mathlib.Core.List.{List, [], _∷_}
