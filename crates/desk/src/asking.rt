@@ -1,9 +1,7 @@
 // A client's request, by its name and its numbers.
 ghost use Prim.Native.Nat.{_≤_};
 use clock::Count;
-use clock::Span;
 use frame::Address;
-use head_gating::Asked;
 use head_judging::Call;
 use script::messages;
 use script::words;
@@ -11,6 +9,9 @@ use script::words::Numbers;
 
 // The names that `place` knows.
 pub const PLACES: usize = 6;
+
+// One more than a GATE holds.
+const MOST: usize = 5;
 
 fn open(of: [u64; 15]) -> Call {
     Call::Open {
@@ -50,35 +51,40 @@ fn deregister(of: [u64; 15]) -> Call {
     }
 }
 
-fn span(of: [u64; 15], at: usize) -> Span
+// A grant is one word.
+fn grant(of: [u64; 15], at: usize) -> u64
     requires { ⌜ at ≤ 13 ⌝ }
 {
-    Span {
-        start: Count(messages::modulo_32(of[at])),
-        length: messages::quanta(of[at + 1]),
-    }
+    let start = messages::modulo_32(of[at]) as u64;
+    let length = messages::modulo_32(of[at + 1]) as u64;
+    start * 0x100000000 + length
 }
 
 // As many as the numbers behind the force bits make.
-fn spans(number: usize) -> usize {
+fn grants(number: usize) -> usize
+    ensures { λ r. ⌜ r ≤ 5 ⌝ }
+{
     if number < 2 {
         return 0;
     }
-    (number - 2) / 2
+    if number < 12 {
+        return (number - 2) / 2;
+    }
+    MOST
 }
 
-// Of more than four grants the first four are handed in.
 fn gate(n: Numbers) -> Call {
     let of = n.of;
-    let asked = Asked {
-        number: spans(n.number),
-        first: span(of, 2),
-        second: span(of, 4),
-        third: span(of, 6),
-        fourth: span(of, 8),
-        force: messages::modulo_8(of[1]),
-    };
     let link = of[0] as usize;
+    let number = grants(n.number);
+    let words = [
+        grant(of, 2),
+        grant(of, 4),
+        grant(of, 6),
+        grant(of, 8),
+        grant(of, 10),
+    ];
+    let asked = face_head_calls::asked(&words[0..number], messages::modulo_8(of[1]));
     Call::Gate { link, asked }
 }
 

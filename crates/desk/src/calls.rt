@@ -12,17 +12,18 @@ use script::words::Numbers;
 use script::words::Spelt;
 
 fn hand_link(desk: Desk, of: [u64; 15]) -> Desk {
-    if !hand::is_link(of) {
+    let at = hand::place(of[0], of[1]);
+    if at == hand::BEHIND {
         return run::not_asked(desk);
     }
-    run::handed(desk, hand::with_link(desk, of))
+    run::handed(desk, hand::with_link(desk, at, of))
 }
 
 fn hand(desk: Desk, name: &[u8], of: [u64; 15]) -> Desk {
     match words::place(name, b"hand_head hand_before hand_inside hand_link") {
         0 => run::handed(desk, hand::with_head(desk, of)),
-        1 => run::handed(desk, hand::with_before(desk, of)),
-        2 => run::handed(desk, hand::with_inside(desk, of)),
+        1 => run::handed(desk, hand::with_window(desk, 1, of[0], of[1])),
+        2 => run::handed(desk, hand::with_window(desk, 2, of[0], 0)),
         3 => hand_link(desk, of),
         _ => run::not_asked(desk),
     }

@@ -1,77 +1,48 @@
-// A head or a table that is handed in again with one part of it changed: what no call of its own leads to soon, or at all.
+// Words of a head or a link that are handed in again: what no call of its own leads to soon, or at all.
 use crate::state::Desk;
-use clock::Count;
-use clock::Timer;
-use frame::Address;
-use head_links::Link;
-use head_links::State;
-use head_state::Head;
-use head_state::Window;
-use script::messages;
 
-fn timer(n: u64) -> Timer {
-    let left = messages::modulo_32(n);
-    Timer { left }
-}
+// The words of three links.
+pub const BEHIND: usize = 15;
 
 pub fn with_head(desk: Desk, of: [u64; 15]) -> Desk {
-    let head = desk.head;
-    let window = head.window;
-    desk.with_head(Head {
-        address: Address(of[0]),
-        count: Count(messages::modulo_32(of[1])),
-        window,
-    })
+    let mut next = desk;
+    next.head[0] = of[0];
+    next.head[1] = of[1];
+    next
 }
 
-fn with_window(desk: Desk, window: Window) -> Desk {
-    let head = desk.head;
-    desk.with_head(head.with_window(window))
+pub fn with_window(desk: Desk, phase: u64, left: u64, length: u64) -> Desk {
+    let mut next = desk;
+    next.head[2] = phase;
+    next.head[3] = left;
+    next.head[4] = length;
+    next
 }
 
-pub fn with_before(desk: Desk, of: [u64; 15]) -> Desk {
-    let timer = timer(of[0]);
-    let length = messages::quanta(of[1]);
-    with_window(desk, Window::Before { timer, length })
-}
-
-pub fn with_inside(desk: Desk, of: [u64; 15]) -> Desk {
-    let timer = timer(of[0]);
-    with_window(desk, Window::Inside { timer })
-}
-
-// A link from 1 to 3, and a state from 0 to 2.
-pub fn is_link(of: [u64; 15]) -> bool {
-    let number = of[0];
-    let state = of[1];
-    (number > 0) & (number < 4) & (state < 3)
-}
-
-fn state(n: u64) -> State {
-    match n {
-        0 => State::Idle,
-        1 => State::Waiting,
-        _ => State::Registered,
+// Where the words of a link from 1 to 3 begin, if its state is one from 0 to 2; else behind the table.
+pub fn place(number: u64, state: u64) -> usize {
+    if state > 2 {
+        return BEHIND;
+    }
+    match number {
+        1 => 0,
+        2 => 5,
+        3 => 10,
+        _ => BEHIND,
     }
 }
 
-fn link(of: [u64; 15]) -> Link {
-    Link {
-        address: Address(of[2]),
-        state: state(of[1]),
-        wait: timer(of[3]),
-        watchdog: timer(of[4]),
-        periodic: timer(of[5]),
+fn put(words: &[u64], at: usize, links: &mut [u64]) {
+    if at <= links.len() {
+        face_words::lay(words, &mut links[at..]);
     }
 }
 
-pub fn with_link(desk: Desk, of: [u64; 15]) -> Desk {
+pub fn with_link(desk: Desk, at: usize, of: [u64; 15]) -> Desk {
+    let mut next = desk;
     let mut links = desk.links;
-    let link = link(of);
-    match of[0] {
-        1 => links[0] = link,
-        2 => links[1] = link,
-        _ => links[2] = link,
-    }
-    desk.with_links(links)
+    let words = [of[2], of[1], of[3], of[4], of[5]];
+    put(&words, at, &mut links);
+    next.links = links;
+    next
 }

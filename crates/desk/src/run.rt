@@ -1,119 +1,118 @@
 // The head's calls, each with what is shown of it.
+ghost use Prim.Native.Nat.{_≤_};
 use crate::state::Desk;
 use crate::tell;
-use desk_table::Served;
 use frame::Address;
-use frame::Reply;
-use head_calls::Answer;
 use head_judging::Call;
-use head_links::Link;
-use head_state::Head;
-use head_state::Window;
 use script::out;
 
-fn tell_number(reply: Reply) {
-    out::text(b" ->");
-    out::number(reply.number() as u64);
+fn at_most(lent: usize, most: usize) -> usize
+    ensures { λ r. ⌜ r ≤ most ⌝ }
+{
+    if lent < most { lent } else { most }
 }
 
-// What every answer shows before its notice and frames.
-fn tell_answer(answer: Answer, before: [Link; 3], after: [Link; 3]) {
-    let reply = answer.reply;
-    let head = answer.next;
-    tell_number(reply);
-    tell::tell_head(head);
-    tell::tell_changed(before, after);
+fn answer(
+    call: Call,
+    head: &mut [u64],
+    links: &mut [u64],
+    out: &mut [u8],
+    told: &mut [u64],
+    made: &mut [u64],
+) -> u8 {
+    match call {
+        Call::Tick => face_head_calls::tick(head, links, out, told),
+        Call::Advance(n) => face_head_calls::advance(n, head, links, out, told, made),
+        _ => face_head_calls::served(call, head, links, out, told),
+    }
 }
 
-pub fn fresh(desk: Desk, address: Address) -> Desk {
-    let before = desk.links;
-    let begun = desk_table::fresh(address, before);
-    let answer = begun.answer;
-    let links = begun.links;
-    let head = answer.next;
-    let own = head.address;
-    tell_answer(answer, before, links);
-    out::text(b"; address");
-    out::address(own.0);
-    out::text(b"\n");
-    desk.with_head(head).with_links(links)
+// Over as much of the output as is lent.
+fn lend(
+    call: Call,
+    lent: usize,
+    head: &mut [u64],
+    links: &mut [u64],
+    out: &mut [u8],
+    told: &mut [u64],
+    made: &mut [u64],
+) -> u8 {
+    let n = at_most(lent, out.len());
+    answer(call, head, links, &mut out[0..n], told, made)
 }
 
-fn serve(desk: Desk, call: Call) -> Served {
-    let head = desk.head;
-    let links = desk.links;
-    let out = desk.out;
-    desk_table::serve(head, links, call, out, desk.lent)
-}
-
-fn tell_served(before: [Link; 3], served: Served) {
-    let answer = served.answer;
-    let links = served.links;
-    let out = served.out;
-    let notice = answer.notice;
-    tell_answer(answer, before, links);
-    tell::tell_notice(notice);
-    tell::tell_frames(out, answer.frames);
-    out::text(b"\n");
-}
-
-fn after(desk: Desk, served: Served) -> Desk {
-    let answer = served.answer;
-    let head = answer.next;
-    let links = served.links;
-    let out = served.out;
+fn serve(desk: Desk, call: Call) -> Desk {
+    let mut head = desk.head;
+    let mut links = desk.links;
+    let mut out = desk.out;
+    let mut told = [0u64; 5];
+    let mut made = [0u64];
+    let lent = desk.lent;
+    let number = lend(
+        call,
+        lent,
+        &mut head,
+        &mut links,
+        &mut out,
+        &mut told,
+        &mut made,
+    );
     Desk {
         head,
         links,
         out,
-        lent: desk.lent,
+        lent,
+        number,
+        told,
+        made: made[0],
     }
+}
+
+fn begun(desk: Desk, address: Address) -> Desk {
+    let mut next = desk;
+    let mut head = desk.head;
+    let mut links = desk.links;
+    let mut told = [0u64; 5];
+    next.number = face_head_calls::begun(address, &mut head, &mut links, &mut told);
+    next.head = head;
+    next.links = links;
+    next
+}
+
+pub fn fresh(desk: Desk, address: Address) -> Desk {
+    let next = begun(desk, address);
+    tell::tell_answer(desk, next);
+    out::text(b"; address");
+    out::address(next.head[0]);
+    out::text(b"\n");
+    next
 }
 
 pub fn ask(desk: Desk, call: Call) -> Desk {
-    let before = desk.links;
-    let served = serve(desk, call);
-    tell_served(before, served);
-    after(desk, served)
-}
-
-// The window's phase, by number, so that two can be compared.
-fn phase(head: Head) -> u8 {
-    let window = head.window;
-    match window {
-        Window::Idle => 0,
-        Window::Before { .. } => 1,
-        Window::Inside { .. } => 2,
-    }
+    let next = serve(desk, call);
+    tell::tell_served(desk, next);
+    next
 }
 
 // Whether an answer to a tick refuses or sends, or the window's phase or a link is another one.
-fn matters(desk: Desk, served: Served) -> bool {
-    let answer = served.answer;
-    let reply = answer.reply;
-    let then = desk.head;
-    let now = answer.next;
-    let before = desk.links;
-    let after = served.links;
-    if reply.number() != 0 {
+fn matters(desk: Desk, next: Desk) -> bool {
+    if next.number != 0 {
         return true;
     }
-    if answer.frames > 0 {
+    if next.told[0] > 0 {
         return true;
     }
-    (phase(then) != phase(now)) | tell::changed(before, after)
+    (desk.head[2] != next.head[2]) | tell::changed(desk, next)
 }
 
 // The k-th tick of a line.
 fn tick(desk: Desk, k: u64) -> Desk {
-    let before = desk.links;
-    let served = serve(desk, Call::Tick);
-    if matters(desk, served) {
-        out::text(b" ");
-        out::number(k);
-        tell_served(before, served);
+    let next = serve(desk, Call::Tick);
+    if matters(desk, next) {
+        out::field(b" ", k);
+        tell::tell_served(desk, next);
     }
-    after(desk, served)
+    next
 }
 
 pub fn ticks(desk: Desk, number: u64) -> Desk {
@@ -128,34 +127,25 @@ pub fn ticks(desk: Desk, number: u64) -> Desk {
 }
 
 pub fn advance(desk: Desk, number: u64) -> Desk {
-    let before = desk.links;
-    let served = serve(desk, Call::Advance(number));
-    let answer = served.answer;
-    tell_served(before, served);
-    out::text(b"  made");
-    out::number(answer.made);
+    let next = ask(desk, Call::Advance(number));
+    out::field(b"  made", next.made);
     out::text(b"\n");
-    after(desk, served)
+    next
 }
 
 // A desk as it was, and as it is handed in again.
 pub fn handed(desk: Desk, next: Desk) -> Desk {
-    let head = next.head;
-    let before = desk.links;
-    let links = next.links;
     out::text(b" ->");
-    tell::tell_head(head);
-    tell::tell_changed(before, links);
+    tell::tell_state(desk, next);
     out::text(b"\n");
     next
 }
 
 pub fn output(desk: Desk, number: u64) -> Desk {
-    if number > Served::OUTPUT as u64 {
+    if number > Desk::OUTPUT as u64 {
         return not_asked(desk);
     }
-    out::text(b" -> output");
-    out::number(number);
+    out::field(b" -> output", number);
     out::text(b"\n");
     let mut next = desk;
     next.lent = number as usize;
@@ -170,9 +160,8 @@ pub fn octets(desk: Desk) -> Desk {
 }
 
 pub fn timers(desk: Desk) -> Desk {
-    let links = desk.links;
     out::text(b" ->");
-    tell::tell_timers(links);
+    tell::tell_timers(desk);
     out::text(b"\n");
     desk
 }

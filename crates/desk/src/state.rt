@@ -1,43 +1,31 @@
-// What stands between two calls: the head, its table, its output, and how much of the output is lent.
-use desk_table::Served;
-use frame::Address;
-use head_links::Link;
-use head_state::Head;
-
+// What stands between two calls, in words as the C face keeps them: head, table, output, how much of it is lent; and what the last call told.
 pub struct Desk {
-    pub head: Head,
-    pub links: [Link; 3],
+    pub head: [u64; 5],
+    pub links: [u64; 15],
     pub out: [u8; 180],
     pub lent: usize,
+    pub number: u8,
+    pub told: [u64; 5],
+    pub made: u64,
 }
 
 impl Desk {
+    // Sixty octets for each link.
+    pub const OUTPUT: usize = 180;
+
     // The output's octets at first, which no frame begins or ends with.
     const UNTOUCHED: u8 = 0xEE;
 
     // Before the first fresh head there is a refused one.
     pub fn first() -> Desk {
-        let begun = desk_table::fresh(Address(0), [Link::idle(); 3]);
-        let answer = begun.answer;
-        let head = answer.next;
-        let links = begun.links;
         Desk {
-            head,
-            links,
+            head: [0; 5],
+            links: [0; 15],
             out: [Desk::UNTOUCHED; 180],
-            lent: Served::OUTPUT,
+            lent: Desk::OUTPUT,
+            number: 0,
+            told: [0; 5],
+            made: 0,
         }
-    }
-
-    pub fn with_head(self, head: Head) -> Desk {
-        let mut next = self;
-        next.head = head;
-        next
-    }
-
-    pub fn with_links(self, links: [Link; 3]) -> Desk {
-        let mut next = self;
-        next.links = links;
-        next
     }
 }

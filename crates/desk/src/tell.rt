@@ -1,131 +1,98 @@
 // What a head answers, in words.
-use clock::Timer;
+ghost use Prim.Native.Nat.{_≤_};
+use crate::state::Desk;
 use frame::Message;
 use frame::Reply;
-use head_links::Link;
-use head_links::State;
-use head_plans::Kind;
-use head_plans::Notice;
-use head_state::Head;
-use head_state::Window;
 use script::frames;
+use script::messages;
 use script::out;
 
-fn tell_timer(timer: Timer) {
-    out::number(timer.left as u64);
-}
-
-fn tell_window(window: Window) {
-    match window {
-        Window::Idle => out::text(b" idle"),
-        Window::Before { timer, .. } => {
-            out::text(b" before");
-            tell_timer(timer);
-        }
-        Window::Inside { timer } => {
-            out::text(b" inside");
-            tell_timer(timer);
-        }
-    }
-}
-
 // Count and window.
-pub fn tell_head(head: Head) {
-    let count = head.count;
-    let window = head.window;
-    out::text(b" count");
-    frames::tell_count(count);
-    tell_window(window);
-}
-
-// A link's state, by number, so that two can be compared.
-fn state_number(state: State) -> u8 {
-    match state {
-        State::Idle => 0,
-        State::Waiting => 1,
-        State::Registered => 2,
+fn tell_head(head: [u64; 5]) {
+    out::field(b" count", head[1]);
+    out::word(b"idle before inside", messages::modulo_8(head[2]));
+    if head[2] != 0 {
+        out::number(head[3]);
     }
 }
 
-fn tell_state(state: State) {
-    match state {
-        State::Idle => out::text(b" idle"),
-        State::Waiting => out::text(b" waiting"),
-        State::Registered => out::text(b" registered"),
+// Whether state or address of the link whose words begin there is another one.
+fn differs(before: [u64; 15], after: [u64; 15], at: usize) -> bool
+    requires { ⌜ at ≤ 10 ⌝ }
+{
+    (before[at] != after[at]) | (before[at + 1] != after[at + 1])
+}
+
+pub fn changed(desk: Desk, next: Desk) -> bool {
+    let before = desk.links;
+    let after = next.links;
+    differs(before, after, 0) | differs(before, after, 5) | differs(before, after, 10)
+}
+
+fn tell_link(before: [u64; 15], after: [u64; 15], at: usize)
+    requires { ⌜ at ≤ 10 ⌝ }
+{
+    if differs(before, after, at) {
+        out::field(b"; link", at as u64 / 5 + 1);
+        out::word(
+            b"idle waiting registered",
+            messages::modulo_8(after[at + 1]),
+        );
+        out::address(after[at]);
     }
 }
 
-// Whether state or address is another one.
-fn differs(a: Link, b: Link) -> bool {
-    let of_a = a.address;
-    let of_b = b.address;
-    let state_a = a.state;
-    let state_b = b.state;
-    (of_a.0 != of_b.0) | (state_number(state_a) != state_number(state_b))
+// The head, and the links that are others.
+pub fn tell_state(desk: Desk, next: Desk) {
+    let head = next.head;
+    let before = desk.links;
+    let after = next.links;
+    tell_head(head);
+    tell_link(before, after, 0);
+    tell_link(before, after, 5);
+    tell_link(before, after, 10);
 }
 
-pub fn changed(before: [Link; 3], after: [Link; 3]) -> bool {
-    differs(before[0], after[0]) | differs(before[1], after[1]) | differs(before[2], after[2])
+// What every answer shows before its notice and frames.
+pub fn tell_answer(desk: Desk, next: Desk) {
+    out::field(b" ->", next.number as u64);
+    tell_state(desk, next);
 }
 
-fn tell_link(number: u64, before: Link, after: Link) {
-    let state = after.state;
-    let address = after.address;
-    if differs(before, after) {
-        out::text(b"; link");
-        out::number(number);
-        tell_state(state);
-        out::address(address.0);
-    }
-}
-
-pub fn tell_changed(before: [Link; 3], after: [Link; 3]) {
-    tell_link(1, before[0], after[0]);
-    tell_link(2, before[1], after[1]);
-    tell_link(3, before[2], after[2]);
-}
-
-fn tell_link_timers(number: u64, link: Link) {
-    let wait = link.wait;
-    let watchdog = link.watchdog;
-    let periodic = link.periodic;
-    out::text(b" link");
-    out::number(number);
-    out::text(b" wait");
-    tell_timer(wait);
-    out::text(b" watchdog");
-    tell_timer(watchdog);
-    out::text(b" periodic");
-    tell_timer(periodic);
+fn tell_link_timers(links: [u64; 15], at: usize)
+    requires { ⌜ at ≤ 10 ⌝ }
+{
+    out::field(b" link", at as u64 / 5 + 1);
+    out::field(b" wait", links[at + 2]);
+    out::field(b" watchdog", links[at + 3]);
+    out::field(b" periodic", links[at + 4]);
 }
 
 // The ticks that are left, 0 where a timer is stopped.
-pub fn tell_timers(links: [Link; 3]) {
-    tell_link_timers(1, links[0]);
+pub fn tell_timers(desk: Desk) {
+    let links = desk.links;
+    tell_link_timers(links, 0);
     out::text(b";");
-    tell_link_timers(2, links[1]);
+    tell_link_timers(links, 5);
     out::text(b";");
-    tell_link_timers(3, links[2]);
+    tell_link_timers(links, 10);
 }
 
-fn tell_round_trip(notice: Notice) {
-    let trip = notice.trip;
-    out::text(b" link");
-    out::number(notice.link as u64);
-    out::text(b" round trip");
-    out::number(trip.0 as u64);
-}
-
-pub fn tell_notice(notice: Notice) {
-    let kind = notice.kind;
+fn tell_kind(kind: u64) {
     match kind {
-        Kind::Nothing => return,
-        Kind::Request => out::text(b"; request heard"),
-        Kind::Registered => out::text(b"; registered"),
-        Kind::Dropped => out::text(b"; dropped"),
-        Kind::Report => out::text(b"; report heard"),
+        1 => out::text(b"; request heard"),
+        2 => out::text(b"; registered"),
+        3 => out::text(b"; dropped"),
+        _ => out::text(b"; report heard"),
     }
-    tell_round_trip(notice);
+}
+
+fn tell_notice(told: [u64; 5]) {
+    if told[1] > 0 {
+        tell_kind(told[2]);
+        out::field(b" link", told[3]);
+        out::field(b" round trip", told[4]);
+    }
 }
 
 fn tell_message(message: Message) {
@@ -148,7 +115,7 @@ fn tell_frame(octets: &[u8]) {
 }
 
 // The frames that stand in the output, sixty octets each from its start.
-pub fn tell_frames(out: [u8; 180], number: usize) {
+fn tell_frames(out: [u8; 180], number: u64) {
     if number > 0 {
         tell_frame(&out[0..60]);
     }
@@ -158,6 +125,15 @@ pub fn tell_frames(out: [u8; 180], number: usize) {
     if number > 2 {
         tell_frame(&out[120..180]);
     }
+}
+
+pub fn tell_served(desk: Desk, next: Desk) {
+    let told = next.told;
+    let out = next.out;
+    tell_answer(desk, next);
+    tell_notice(told);
+    tell_frames(out, told[0]);
+    out::text(b"\n");
 }
 
 fn tell_sixty(octets: &[u8]) {

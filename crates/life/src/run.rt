@@ -97,8 +97,7 @@ fn tick(b: FloorBox, k: u64) -> Answer {
     let before = phase_of(b);
     let a = b.tick();
     if matters(before, a) {
-        out::text(b" ");
-        out::number(k);
+        out::field(b" ", k);
         tell::tell(a);
         out::text(b"\n");
     }
@@ -121,8 +120,7 @@ fn advance(b: FloorBox, number: u64) -> Answer {
     let advanced = b.advance(number);
     let last = advanced.answer;
     let a = told(last);
-    out::text(b"  made");
-    out::number(advanced.made);
+    out::field(b"  made", advanced.made);
     out::text(b"\n");
     a
 }

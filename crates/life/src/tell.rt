@@ -6,7 +6,6 @@ use box_registration::State;
 use box_telling::Frames;
 use box_telling::Notice;
 use box_telling::Notices;
-use clock::Timer;
 use frame::Grant;
 use frame::Reply;
 use script::frames;
@@ -43,19 +42,13 @@ pub fn tell_box(b: FloorBox) {
     let state = registration.state;
     let light = p.light;
     let list = p.list;
-    out::text(b" count");
-    frames::tell_count(count);
+    out::field(b" count", count.0 as u64);
     tell_state(state);
     out::word(
         b"rest before random laser asking due lit open",
         phase(light),
     );
-    out::text(b" held");
-    out::number(list.number as u64);
-}
-
-fn tell_timer(timer: Timer) {
-    out::number(timer.left as u64);
+    out::field(b" held", list.number as u64);
 }
 
 // The ticks that are left, 0 where a timer is stopped.
@@ -65,12 +58,9 @@ pub fn tell_timers(b: FloorBox) {
     let wait = registration.wait;
     let watchdog = registration.watchdog;
     let report = registration.report;
-    out::text(b" wait");
-    tell_timer(wait);
-    out::text(b" watchdog");
-    tell_timer(watchdog);
-    out::text(b" report");
-    tell_timer(report);
+    out::field(b" wait", wait.left as u64);
+    out::field(b" watchdog", watchdog.left as u64);
+    out::field(b" report", report.left as u64);
 }
 
 fn tell_granted(grant: Grant) {
@@ -158,8 +148,7 @@ pub fn tell(a: Answer) {
     let next = a.next;
     let notices = a.notices;
     let frames = a.frames;
-    out::text(b" ->");
-    out::number(reply.number() as u64);
+    out::field(b" ->", reply.number() as u64);
     if a.drift != 0 {
         out::text(b" drift");
         out::signed(a.drift);

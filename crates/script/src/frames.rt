@@ -1,6 +1,5 @@
 // What a frame says, in words.
 use crate::out;
-use clock::Count;
 use clock::Quanta;
 use frame::Body;
 use frame::Grant;
@@ -10,14 +9,10 @@ use frame::RegisterAckFlag;
 use frame::RegisterFlag;
 use frame::RegisterReqFlag;
 
-pub fn tell_count(count: Count) {
-    out::number(count.0 as u64);
-}
-
 pub fn tell_grant(grant: Grant) {
     let start = grant.start;
     let length = grant.length;
-    tell_count(start);
+    out::number(start.0 as u64);
     out::number(length.0 as u64);
     if grant.force {
         out::text(b" force");
@@ -25,18 +20,15 @@ pub fn tell_grant(grant: Grant) {
 }
 
 fn tell_port(port: u16) {
-    out::text(b" port");
-    out::number(port as u64);
+    out::field(b" port", port as u64);
 }
 
 fn tell_sync(sync: Quanta) {
-    out::text(b" sync");
-    out::number(sync.0 as u64);
+    out::field(b" sync", sync.0 as u64);
 }
 
 fn tell_pending(pending: u8) {
-    out::text(b" pending");
-    out::number(pending as u64);
+    out::field(b" pending", pending as u64);
 }
 
 fn tell_another(grant: Grant) {
@@ -77,22 +69,19 @@ fn tell_discovery(grant: Grant, sync: Quanta) {
 }
 
 fn tell_register_req(flag: RegisterReqFlag, pending: u8) {
-    out::text(b" register_req");
-    out::number(flag.number() as u64);
+    out::field(b" register_req", flag.number() as u64);
     tell_pending(pending);
 }
 
 fn tell_register(flag: RegisterFlag, port: u16, sync: Quanta, pending: u8) {
-    out::text(b" register");
-    out::number(flag.number() as u64);
+    out::field(b" register", flag.number() as u64);
     tell_port(port);
     tell_sync(sync);
     tell_pending(pending);
 }
 
 fn tell_register_ack(flag: RegisterAckFlag, port: u16, sync: Quanta) {
-    out::text(b" register_ack");
-    out::number(flag.number() as u64);
+    out::field(b" register_ack", flag.number() as u64);
     tell_port(port);
     tell_sync(sync);
 }
@@ -118,6 +107,5 @@ pub fn tell(message: Message) {
     let body = message.body;
     let timestamp = message.timestamp;
     tell_body(body);
-    out::text(b" stamp");
-    tell_count(timestamp);
+    out::field(b" stamp", timestamp.0 as u64);
 }

@@ -16,6 +16,12 @@ pub fn number(n: u64) {
     decimal(n);
 }
 
+// A number with its name in front, which brings a space of its own.
+pub fn field(name: &[u8], n: u64) {
+    text(name);
+    number(n);
+}
+
 // A list's word by its place, from 0, with a space in front; nothing where it has none.
 pub fn word(list: &[u8], place: u8) {
     let mut left = place;
