@@ -2,7 +2,7 @@
 ghost use mathlib.Core.Path.{_≡_};
 ghost use mathlib.Core.Bool.{cond};
 ghost use lib.Dec.{eqb};
-ghost use mathlib.Core.List.{[], _++_};
+ghost use mathlib.Core.List.{[], _∷_, _++_};
 ghost use Prim.Native.Nat.{_+_, _≤_};
 ghost use lib.ListN.{length, take, drop, replicate};
 ghost use Rattle.octets.specs.Octets.{bytes};
@@ -293,20 +293,22 @@ fn write_register_ack(
 }
 
 // By the kind of message.
-fn write_words(w: &[u64], o: &mut [u8]) -> u8
-    requires { ⌜ (10 ≤ length (now w)) × (60 ≤ length (now o)) ⌝ }
-    ensures { λ r. ⌜ writeLeft r (now (o .exit)) ≡ written (writingOf (take 10 (now (w .entry)))) (now (o .entry)) ⌝ }
+fn write_kind(
+    o: &mut [u8],
+    to: u64,
+    from: u64,
+    stamp: u64,
+    kind: u64,
+    a: u64,
+    b: u64,
+    c: u64,
+    d: u64,
+    e: u64,
+    f: u64,
+) -> u8
+    requires { ⌜ 60 ≤ length (now o) ⌝ }
+    ensures { λ r. ⌜ writeLeft r (now (o .exit)) ≡ written (writingOf (to ∷ from ∷ stamp ∷ kind ∷ a ∷ b ∷ c ∷ d ∷ e ∷ f ∷ [])) (now (o .entry)) ⌝ }
 {
-    let to = w[0];
-    let from = w[1];
-    let stamp = w[2];
-    let kind = w[3];
-    let a = w[4];
-    let b = w[5];
-    let c = w[6];
-    let d = w[7];
-    let e = w[8];
-    let f = w[9];
     if kind == 0 {
         return write_gate(o, to, from, stamp, a, b, c, d, e, f);
     }
@@ -326,6 +328,25 @@ fn write_words(w: &[u64], o: &mut [u8]) -> u8
         return write_register_ack(o, to, from, stamp, a, b, c, d, e, f);
     }
     refuse(o)
+}
+
+fn write_words(w: &[u64], o: &mut [u8]) -> u8
+    requires { ⌜ (10 ≤ length (now w)) × (60 ≤ length (now o)) ⌝ }
+    ensures { λ r. ⌜ writeLeft r (now (o .exit)) ≡ written (writingOf (take 10 (now (w .entry)))) (now (o .entry)) ⌝ }
+{
+    write_kind(
+        o,
+        w[0],
+        w[1],
+        w[2],
+        w[3],
+        w[4],
+        w[5],
+        w[6],
+        w[7],
+        w[8],
+        w[9],
+    )
 }
 
 // The frame of the message that the words are the words of; else 4, and zeros.
