@@ -141,7 +141,7 @@ fn register_ack(of: [u64; 15]) -> Body {
     }
 }
 
-// The names are in capitals, as document 01 writes them, so that a REGISTER is not the client's register.
+// The names are in capitals, as the rules write them, so that a REGISTER is not the client's register.
 fn kind(name: &[u8]) -> usize {
     words::place(
         name,

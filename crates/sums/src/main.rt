@@ -1,4 +1,4 @@
-// Document 01, "Numbers", "Sums to check" 1 to 4, and timers.
+// Sums 1 to 4 (R205 to R208), and timers.
 use clock::Count;
 use clock::Quanta;
 use clock::Timer;
