@@ -14,7 +14,7 @@ use Rattle.head_judging.specs.declared.Call.{Call}
 use Rattle.head_calls.specs.Serve.{serveOf}
 use Rattle.head_calls.specs.declared.Answer.{Answer}
 use Rattle.face_words.specs.Words.{laid}
-use Rattle.face_head_calls.specs.Calls.{Told, told, keptHead, keptLinks}
+use Rattle.face_head_calls.specs.Calls.{headAt, untilCall, Told, told, keptHead, keptLinks}
 
 unfoldable pub toldOf : Answer → List ℕ → Told
 toldOf a reply = told (numberOf (a .reply)) (laid (toldWords a) reply)
