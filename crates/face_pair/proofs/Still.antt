@@ -27,7 +27,7 @@ use Rattle.box_laws.specs.Calls.{Outcome, unsound, refuses, accepts, outcome}
 use Rattle.box_laws.specs.Stated.{tick}
 use Rattle.box_laws.specs.Tick.{Says, bell-says}
 use Rattle.pair_box.specs.End.{stateOf}
-use Rattle.pair_box.proofs.Activated.{activate-leaves}
+use Rattle.box_laws.proofs.Activated.{activate-leaves}
 
 -- where the first of two notices is none there is none
 no-notice : (a b : Notice) → isNothing (noticesOf (a ∷ b ∷ []) .first) ≡ true → (isNothing a ≡ true) × (isNothing b ≡ true)

@@ -9,12 +9,21 @@ use pages::tree::Tree;
 const LIST: &str = include_str!("tree/READING.md");
 
 const FILES: [(&str, &str); 6] = [
-    ("clock/specs/Counts.antt", include_str!("tree/Counts.antt")),
-    ("clock/specs/Laws.antt", include_str!("tree/Laws.antt")),
-    ("clock/specs/Stated.antt", include_str!("tree/Stated.antt")),
-    ("clock/proofs/Tied.antt", include_str!("tree/Tied.antt")),
-    ("clock/src/lib.rt", include_str!("tree/clock.rt")),
-    ("crustnewt/src/lib.rt", include_str!("tree/crustnewt.rt")),
+    (
+        "clock/specs/Counts.antt",
+        include_str!("tree/Counts.antt.txt"),
+    ),
+    ("clock/specs/Laws.antt", include_str!("tree/Laws.antt.txt")),
+    (
+        "clock/specs/Stated.antt",
+        include_str!("tree/Stated.antt.txt"),
+    ),
+    ("clock/proofs/Tied.antt", include_str!("tree/Tied.antt.txt")),
+    ("clock/src/lib.rt", include_str!("tree/clock.rt.txt")),
+    (
+        "crustnewt/src/lib.rt",
+        include_str!("tree/crustnewt.rt.txt"),
+    ),
 ];
 
 /// A clock, and an archive over it.
