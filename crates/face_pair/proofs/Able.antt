@@ -93,7 +93,7 @@ module _ (A : Address) where
         rw (unread-none os h u) (stays 1 (boxes.unread-spares A block random starts.lent os h g u enough)))
         (decided (eqb (numberOf (readOf os .reply)) 0))
 
-    box-calls : (c : box-end.Call) → (d : box.Asked A) × Unit {0} × Comes (BoxFace A) BGood (box.asked A block d) (BoxEnd A .call b c)
+    box-calls : (c : box-end.Request) → (d : box.Asked A) × Unit {0} × Comes (BoxFace A) BGood (box.asked A block d) (BoxEnd A .call b c)
     box-calls box-end.register =
         (box.register starts.lent, tt, comes (boxes.lent-as A calls.register block starts.lent tt g enough))
     box-calls box-end.deregister =
