@@ -60,9 +60,9 @@ extern "C" {
 #endif
 
 /* The version of the library, as `crustnewt --version` and pkg-config tell it. */
-#define CRUSTNEWT_VERSION "0.2.0"
+#define CRUSTNEWT_VERSION "0.3.0"
 #define CRUSTNEWT_VERSION_MAJOR 0
-#define CRUSTNEWT_VERSION_MINOR 2
+#define CRUSTNEWT_VERSION_MINOR 3
 #define CRUSTNEWT_VERSION_PATCH 0
 
 /* How many elements to lend. */

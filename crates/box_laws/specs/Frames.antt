@@ -1,25 +1,24 @@
 -- Lemmas: R99: the frames of an accepted call are the encodings of valid messages.
 -- Assumes nothing.
-use Prim.Native.Nat.{_/_, _%_, _^_, _<_}
+use Prim.Native.Nat.{_^_, _<_}
 use mathlib.Core.Path.{_≡_, refl, sym, ap, _∙_}
-use mathlib.Core.Bool.{true, _&&_, and-eq-true-iff}
+use mathlib.Core.Bool.{true, and-eq-true-iff}
 use mathlib.Core.Logic.{_≢_}
 use native.Mathlib.Omega.{arith}
-use borrow.Author.Tests.{leb-true}
-use lib.Dec.{eqb, ltb}
+use lib.Dec.{eqb}
 use lib.IntN.{ℤ}
 use Rattle.clock.specs.Counts.{nextOf}
 use Rattle.clock.specs.declared.Count.{Count}
 use Rattle.frame.specs.Card.{numberOf}
 use Rattle.frame.specs.Layout.{encode}
-use Rattle.frame.specs.Range.{BodyFits, Valid, Typed}
+use Rattle.frame.specs.Range.{BodyFits, Valid}
 use Rattle.frame.specs.Tests.{Passed}
 use Rattle.frame.specs.declared.Address.{Address}
 use Rattle.frame.specs.declared.Body.{Body}
 use Rattle.frame.specs.declared.Reply.{Reply}
 use Rattle.frame.specs.declared.Reply.the-variants.{Done, Unsound}
 use Rattle.frame.specs.declared.Writing.{Writing}
-use Rattle.frame_range.specs.Fits.{fitsAddress, isIndividual}
+use Rattle.frame_range.specs.Fits.{isIndividual}
 use Rattle.frame_range.specs.Laws.{valid-of}
 use Rattle.frame_writer.proofs.Page.{write-done}
 use Rattle.box_telling.specs.Told.{noFrames, handed}
@@ -34,15 +33,8 @@ use Rattle.box_calls.specs.Box.{soundOf}
 use Rattle.box_calls.specs.declared.Answer.{Answer}
 use Rattle.box_calls.specs.declared.FloorBox.{FloorBox}
 use Rattle.box_laws.specs.Calls.{tests, step, drift, Outcome, unsound, refuses, accepts, outcome}
-use Rattle.box_laws.specs.Stated.{Call, register, deregister, hear, tick, answer}
+use Rattle.box_laws.specs.Stated.{Call, register, deregister, hear, tick, answer, CallTyped}
 use Rattle.box_laws.specs.Sends.{SentFits, Sends, tick-sends, hear-sends}
-
--- what the types of the code's numbers see to
-abbrev pub CallTyped : Call → Type 0
-CallTyped register = Unit {0}
-CallTyped deregister = Unit {0}
-CallTyped (hear m random) = Typed m
-CallTyped tick = Unit {0}
 
 -- the count after a call, before activation
 abbrev pub countAfter : Call → FloorBox → Count
@@ -58,20 +50,21 @@ step-sends (hear m random) b t h =
     hear-sends (m .body) (withCount (b .processes) (m .timestamp)) (eqb (m .destination .0) (b .address .0)) random (valid-of m t (h .1 .1 .0) .body)
 step-sends tick b t h = tick-sends (b .processes)
 
-pub count-below : (c : Call) (b : FloorBox) → CallTyped c → b .processes .count .0 < 2 ^ 32 → countAfter c b .0 < 2 ^ 32
+count-below : (c : Call) (b : FloorBox) → CallTyped c → b .processes .count .0 < 2 ^ 32 → countAfter c b .0 < 2 ^ 32
 unfolding nextOf
 count-below register b t h = h
 count-below deregister b t h = h
 count-below (hear m random) b t h = t .0
 count-below tick b t h = omega arith
 
+pub step-count : (c : Call) (b : FloorBox) → CallTyped c → Passed (tests c b) → b .processes .count .0 < 2 ^ 32 → step c b .next .count .0 < 2 ^ 32
+step-count c b t h k = rw (step-sends c b t h .count) (count-below c b t k)
+
 -- a message of the box, and its frame
 message-valid : (own : Address) (now : Count) (body : Body) → isIndividual own ≡ true → now .0 < 2 ^ 32 → BodyFits body
     → Valid (messageOf own now body)
 message-valid own now body i h f =
-    let some = and-eq-true-iff (fitsAddress own && ltb 0 (own .0)) (eqb (own .0 / 2 ^ 40 % 2) 0) .0 i in
-    let short = leb-true (own .0) 0xFFFFFFFFFFFF (and-eq-true-iff (fitsAddress own) (ltb 0 (own .0)) .0 (some .0) .0) in
-    record { destination = omega arith; source = omega arith; timestamp = h; body = f }
+    record { destination = omega arith; source = i; timestamp = h; body = f }
 
 abbrev pub SentValid : Address → Count → Sent → Type 0
 SentValid own now Nothing = Unit {0}

@@ -4,6 +4,7 @@ use Prim.Native.Nat.{ℕ}
 use mathlib.Core.Path.{_≡_}
 use lib.IntN.{pos}
 use mathlib.Core.Bool.{true}
+use Rattle.frame.specs.Range.{Typed}
 use Rattle.frame.specs.declared.Address.{Address}
 use Rattle.frame.specs.declared.Message.{Message}
 use Rattle.frame_range.specs.Fits.{isIndividual}
@@ -25,6 +26,13 @@ answer register b = registerOf b
 answer deregister b = deregisterOf b
 answer (hear m random) b = hearOf b m random
 answer tick b = tickOf b
+
+-- what the types of the code's numbers see to
+abbrev pub CallTyped : Call → Type 0
+CallTyped register = Unit {0}
+CallTyped deregister = Unit {0}
+CallTyped (hear m random) = Typed m
+CallTyped tick = Unit {0}
 
 -- nothing but its reply is told of a refusal
 pub record Unchanged (b : FloorBox) (x : Answer) : Type 0 where

@@ -1,11 +1,10 @@
 -- Lemmas: every call keeps a sound box sound, and a discovery window on its way only in REGISTERING; then a tick is never answered 14.
 -- Assumes nothing.
 use mathlib.Core.Path.{_≡_, refl}
-use mathlib.Core.Bool.{true, _&&_, and-eq-true-iff}
+use mathlib.Core.Bool.{true}
 use lib.Dec.{eqb}
 use Rattle.frame.specs.Tests.{Passed}
-use Rattle.frame.specs.declared.Message.{Message}
-use Rattle.frame_range.specs.Fits.{fitsAddress, fitsBody, fitsMessage}
+use Rattle.frame_range.specs.Laws.{message-parts}
 use Rattle.box_registration.specs.declared.State.the-variants.{Registering}
 use Rattle.box_processes.specs.Parts.{fresh, withCount}
 use Rattle.box_processes.specs.declared.Processes.{Processes}
@@ -22,17 +21,13 @@ use Rattle.box_laws.specs.Hear.{hear-keeps}
 use Rattle.box_laws.specs.Sound.{Sound, fresh-sound, count-keeps, registering-keeps, waiting-keeps}
 use Rattle.box_laws.specs.Tick.{tick-keeps}
 
-body-fits : (m : Message) → fitsMessage m ≡ true → fitsBody (m .body) ≡ true
-unfolding fitsMessage
-body-fits m h = and-eq-true-iff (fitsAddress (m .destination) && fitsAddress (m .source)) (fitsBody (m .body)) .0 h .1
-
 -- the step of a call
 step-keeps : (c : Call) (b : FloorBox) → Sound (b .processes) → Passed (tests c b) → Sound (step c b .next)
 step-keeps register b s h = registering-keeps (b .processes) s (h .0)
 step-keeps deregister b s h = waiting-keeps (b .processes) s
 step-keeps (hear m random) b s h =
     hear-keeps (m .body) (withCount (b .processes) (m .timestamp)) (eqb (m .destination .0) (b .address .0)) random
-    (count-keeps (b .processes) s (m .timestamp)) (body-fits m (h .1 .1 .0))
+    (count-keeps (b .processes) s (m .timestamp)) (message-parts m (h .1 .1 .0) .2)
 step-keeps tick b s h = tick-keeps (b .processes) s (h .0)
 
 step-calm : (c : Call) (b : FloorBox) → Calm (b .processes) → Calm (step c b .next)

@@ -2,7 +2,7 @@
 -- Assumes nothing.
 use Prim.Native.Nat.{ℕ, zero, suc, _+_, _-_, _*_, _/_, _%_, _^_, _≤_, _<_}
 use mathlib.Core.Path.{_≡_, refl, sym, ap, _∙_}
-use mathlib.Core.Bool.{true, false, cond, _&&_, and-eq-true-iff}
+use mathlib.Core.Bool.{Bool, true, false, cond, _&&_, and-eq-true-iff}
 use mathlib.Core.Logic.{⊎-elim}
 use mathlib.Core.List.{List, [], _∷_, _++_}
 use native.Mathlib.Nat.{div-lt-iff-lt-mul}
@@ -14,7 +14,8 @@ use lib.Pow.{pow-add, pow-pos}
 use Rattle.laws.specs.Cases.{decided}
 use Rattle.octets.specs.Octets.{fieldOf}
 use Rattle.frame.specs.Layout.{forceBits}
-use Rattle.frame.specs.Reading.{oneOf}
+use Rattle.frame.specs.Reading.{oneOf, sourceInRange}
+use Rattle.frame.specs.declared.Body.{Body}
 use Rattle.frame.specs.declared.Body.the-variants.{Gate}
 use Rattle.frame_reader.specs.Decode.{bit, grantAt, registerReqAt, registerAt, registerAckAt}
 use Rattle.frame_reader.specs.Flags.{few}
@@ -22,7 +23,13 @@ use Rattle.frame_reader.proofs.Gate.{one-odd, grantsFrom, four-from, take-from,
 use Rattle.face_frame.specs.Laws.{req-flag-word, flag-word, ack-flag-word}
 use Rattle.face_frame.specs.Message.{messageWords, fieldsOf}
 use Rattle.face_frame_read.specs.Read.{readLeft, told}
-use Rattle.face_frame_read.specs.Steps.{bodied, wordAt, ranged, clear, discoveryRead, grantsRead}
+use Rattle.face_frame_read.specs.Steps.{bodied, sourced, wordAt, ranged, clear, discoveryRead, grantsRead}
+
+-- source and body are one test
+pub sourced-ranged : (t : Bool) (l m : List ℕ) (body : Body) → sourced l m (told (ranged t l body) m) ≡ told (ranged (sourceInRange l && t) l body) m
+unfolding messageWords
+sourced-ranged t l m body =
+    ⊎-elim (λ (e : sourceInRange l ≡ true). rw e) (λ (e : sourceInRange l ≡ false). rw e) (decided (sourceInRange l))
 
 pub register-req-words : (l m : List ℕ) → oneOf (fieldOf l 20 1) (1 ∷ 3 ∷ []) ≡ true
     → bodied l m 3 (fieldOf l 20 1) (fieldOf l 21 1) 0 0 0 0 ≡ told (ranged (oneOf (fieldOf l 20 1) (1 ∷ 3 ∷ [])) l (registerReqAt l)) m

@@ -8,7 +8,7 @@ use lib.ListN.{take, drop}
 use Rattle.octets.specs.Octets.{fieldOf}
 use Rattle.frame_reader.specs.Decode.{bit, quantaAt, grantAt}
 use Rattle.frame_reader.specs.Flags.{few}
-use Rattle.frame.specs.Reading.{refusal}
+use Rattle.frame.specs.Reading.{sourceInRange, refusal}
 use Rattle.frame.specs.declared.Body.{Body}
 use Rattle.frame.specs.declared.Body.the-variants.{Gate, Discovery}
 use Rattle.frame.specs.declared.Reading.{Reading}
@@ -29,10 +29,14 @@ bodied l m kind a b c d e f =
 abbrev pub blank : ℕ → List ℕ → ReadLeft
 blank number m = readLeft number (tenOver 0 0 0 2 0 0 0 0 0 0 m)
 
+-- what is left where the source is in range; else 4, and the blank message's words
+abbrev pub sourced : List ℕ → List ℕ → ReadLeft → ReadLeft
+sourced l m left = cond (sourceInRange l) left (blank 4 m)
+
 abbrev pub wordAt : List ℕ → ℕ → Bool → ℕ
 wordAt l a there = cond there (joined (fieldOf l a 4) (fieldOf l (a + 4) 2)) 0
 
--- the message with this body, where its fields are in range
+-- the message with this body, where the body's fields are in range
 abbrev pub ranged : Bool → List ℕ → Body → Reading
 ranged t l body =
     cond t

@@ -8,8 +8,9 @@ ghost use Rattle.frame.specs.Reading.{oneOf, gateInRange};
 ghost use Rattle.frame.specs.declared.Body.the-variants.{Report};
 ghost use Rattle.frame_reader.specs.Decode.{gateAt, registerReqAt, registerAt, registerAckAt, readControl};
 ghost use Rattle.face_frame_read.specs.Read.{readLeft, told, readCall};
-ghost use Rattle.face_frame_read.specs.Steps.{tenOver, bodied, blank, wordAt, ranged, discoveryRead, grantsRead};
+ghost use Rattle.face_frame_read.specs.Steps.{tenOver, bodied, blank, sourced, wordAt, ranged, discoveryRead, grantsRead};
 use face_words::SHORT;
+use frame::Address;
 use frame::Body;
 use frame::Message;
 
@@ -75,18 +76,6 @@ fn lay(
     m[9] = f;
 }
 
-// The message of a frame, of such a kind and with such a body.
-fn take(s: &[u8], m: &mut [u64], kind: u64, a: u64, b: u64, c: u64, d: u64, e: u64, f: u64) -> u8
-    requires { ⌜ (length (now s) ≡ 60) × (10 ≤ length (now m)) ⌝ }
-    ensures { λ r. ⌜ readLeft r (now (m .exit)) ≡ bodied (now (s .entry)) (now (m .entry)) kind a b c d e f ⌝ }
-{
-    let destination = field(s, 0, 6);
-    let source = field(s, 6, 6);
-    let timestamp = field(s, 16, 4);
-    lay(m, destination, source, timestamp, kind, a, b, c, d, e, f);
-    0
-}
-
 // The blank message: a REPORT of nobody to nobody.
 fn refuse(m: &mut [u64], number: u8) -> u8
     requires { ⌜ 10 ≤ length (now m) ⌝ }
@@ -96,9 +85,24 @@ fn refuse(m: &mut [u64], number: u8) -> u8
     number
 }
 
+// The message of a frame, of such a kind and with such a body; 4 if its source is out of range.
+fn take(s: &[u8], m: &mut [u64], kind: u64, a: u64, b: u64, c: u64, d: u64, e: u64, f: u64) -> u8
+    requires { ⌜ (length (now s) ≡ 60) × (10 ≤ length (now m)) ⌝ }
+    ensures { λ r. ⌜ readLeft r (now (m .exit)) ≡ sourced (now (s .entry)) (now (m .entry)) (bodied (now (s .entry)) (now (m .entry)) kind a b c d e f) ⌝ }
+{
+    let destination = field(s, 0, 6);
+    let source = field(s, 6, 6);
+    let timestamp = field(s, 16, 4);
+    if frame_range::individual(Address(source)) {
+        lay(m, destination, source, timestamp, kind, a, b, c, d, e, f);
+        return 0;
+    }
+    refuse(m, RANGE)
+}
+
 fn read_discovery(s: &[u8], m: &mut [u64]) -> u8
     requires { ⌜ (length (now s) ≡ 60) × (10 ≤ length (now m)) ⌝ }
-    ensures { λ r. ⌜ readLeft r (now (m .exit)) ≡ told (discoveryRead (now (s .entry))) (now (m .entry)) ⌝ }
+    ensures { λ r. ⌜ readLeft r (now (m .exit)) ≡ sourced (now (s .entry)) (now (m .entry)) (told (discoveryRead (now (s .entry))) (now (m .entry))) ⌝ }
 {
     let f = field(s, 20, 1);
     let n = f % 8;
@@ -112,7 +116,7 @@ fn read_discovery(s: &[u8], m: &mut [u64]) -> u8
 
 fn read_grants(s: &[u8], m: &mut [u64]) -> u8
     requires { ⌜ (length (now s) ≡ 60) × (10 ≤ length (now m)) ⌝ }
-    ensures { λ r. ⌜ readLeft r (now (m .exit)) ≡ told (grantsRead (now (s .entry))) (now (m .entry)) ⌝ }
+    ensures { λ r. ⌜ readLeft r (now (m .exit)) ≡ sourced (now (s .entry)) (now (m .entry)) (told (grantsRead (now (s .entry))) (now (m .entry))) ⌝ }
 {
     let f = field(s, 20, 1);
     let n = f % 8;
@@ -128,7 +132,7 @@ fn read_grants(s: &[u8], m: &mut [u64]) -> u8
 
 fn read_gate(s: &[u8], m: &mut [u64]) -> u8
     requires { ⌜ (length (now s) ≡ 60) × (10 ≤ length (now m)) ⌝ }
-    ensures { λ r. ⌜ readLeft r (now (m .exit)) ≡ told (ranged (gateInRange (fieldOf (now (s .entry)) 20 1)) (now (s .entry)) (gateAt (now (s .entry)))) (now (m .entry)) ⌝ }
+    ensures { λ r. ⌜ readLeft r (now (m .exit)) ≡ sourced (now (s .entry)) (now (m .entry)) (told (ranged (gateInRange (fieldOf (now (s .entry)) 20 1)) (now (s .entry)) (gateAt (now (s .entry)))) (now (m .entry))) ⌝ }
 {
     let f = field(s, 20, 1);
     if f / 8 % 2 == 1 {
@@ -139,7 +143,7 @@ fn read_gate(s: &[u8], m: &mut [u64]) -> u8
 
 fn read_report(s: &[u8], m: &mut [u64]) -> u8
     requires { ⌜ (length (now s) ≡ 60) × (10 ≤ length (now m)) ⌝ }
-    ensures { λ r. ⌜ readLeft r (now (m .exit)) ≡ told (ranged (oneOf (fieldOf (now (s .entry)) 20 1) (0 ∷ [])) (now (s .entry)) Report) (now (m .entry)) ⌝ }
+    ensures { λ r. ⌜ readLeft r (now (m .exit)) ≡ sourced (now (s .entry)) (now (m .entry)) (told (ranged (oneOf (fieldOf (now (s .entry)) 20 1) (0 ∷ [])) (now (s .entry)) Report) (now (m .entry))) ⌝ }
 {
     if field(s, 20, 1) == 0 {
         return take(s, m, 2, 0, 0, 0, 0, 0, 0);
@@ -149,7 +153,7 @@ fn read_report(s: &[u8], m: &mut [u64]) -> u8
 
 fn read_register_req(s: &[u8], m: &mut [u64]) -> u8
     requires { ⌜ (length (now s) ≡ 60) × (10 ≤ length (now m)) ⌝ }
-    ensures { λ r. ⌜ readLeft r (now (m .exit)) ≡ told (ranged (oneOf (fieldOf (now (s .entry)) 20 1) (1 ∷ 3 ∷ [])) (now (s .entry)) (registerReqAt (now (s .entry)))) (now (m .entry)) ⌝ }
+    ensures { λ r. ⌜ readLeft r (now (m .exit)) ≡ sourced (now (s .entry)) (now (m .entry)) (told (ranged (oneOf (fieldOf (now (s .entry)) 20 1) (1 ∷ 3 ∷ [])) (now (s .entry)) (registerReqAt (now (s .entry)))) (now (m .entry))) ⌝ }
 {
     let flag = field(s, 20, 1);
     let pending = field(s, 21, 1);
@@ -161,7 +165,7 @@ fn read_register_req(s: &[u8], m: &mut [u64]) -> u8
 
 fn read_register(s: &[u8], m: &mut [u64]) -> u8
     requires { ⌜ (length (now s) ≡ 60) × (10 ≤ length (now m)) ⌝ }
-    ensures { λ r. ⌜ readLeft r (now (m .exit)) ≡ told (ranged (oneOf (fieldOf (now (s .entry)) 22 1) (1 ∷ 2 ∷ 3 ∷ 4 ∷ [])) (now (s .entry)) (registerAt (now (s .entry)))) (now (m .entry)) ⌝ }
+    ensures { λ r. ⌜ readLeft r (now (m .exit)) ≡ sourced (now (s .entry)) (now (m .entry)) (told (ranged (oneOf (fieldOf (now (s .entry)) 22 1) (1 ∷ 2 ∷ 3 ∷ 4 ∷ [])) (now (s .entry)) (registerAt (now (s .entry)))) (now (m .entry))) ⌝ }
 {
     let port = field(s, 20, 2);
     let flag = field(s, 22, 1);
@@ -175,7 +179,7 @@ fn read_register(s: &[u8], m: &mut [u64]) -> u8
 
 fn read_register_ack(s: &[u8], m: &mut [u64]) -> u8
     requires { ⌜ (length (now s) ≡ 60) × (10 ≤ length (now m)) ⌝ }
-    ensures { λ r. ⌜ readLeft r (now (m .exit)) ≡ told (ranged (oneOf (fieldOf (now (s .entry)) 20 1) (0 ∷ 1 ∷ [])) (now (s .entry)) (registerAckAt (now (s .entry)))) (now (m .entry)) ⌝ }
+    ensures { λ r. ⌜ readLeft r (now (m .exit)) ≡ sourced (now (s .entry)) (now (m .entry)) (told (ranged (oneOf (fieldOf (now (s .entry)) 20 1) (0 ∷ 1 ∷ [])) (now (s .entry)) (registerAckAt (now (s .entry)))) (now (m .entry))) ⌝ }
 {
     let flag = field(s, 20, 1);
     let port = field(s, 21, 2);

@@ -12,6 +12,7 @@ use lib.ListN.{length, drop, replicate}
 use Rattle.laws.specs.Cases.{decided, either}
 use Rattle.octets.specs.Octets.{onto, bytes}
 use Rattle.frame.specs.Layout.{frameOf, opcodeOf, firstOctet, bodyOctets, encode}
+use Rattle.frame.specs.Range.{individualIn}
 use Rattle.frame.specs.Reading.{oneOf}
 use Rattle.frame.specs.declared.Body.{Body}
 use Rattle.frame_range.specs.Fits.{fitsBody, fitsMessage}
@@ -47,7 +48,7 @@ module _ (d s t k : ℕ) (l o : List ℕ) where
   abbrev words : List ℕ
   words = d ∷ s ∷ t ∷ k ∷ l
 
-  taken : (f : List ℕ) → leb d 0xFFFFFFFFFFFF ≡ true → leb s 0xFFFFFFFFFFFF ≡ true → leb t 0xFFFFFFFF ≡ true
+  taken : (f : List ℕ) → leb d 0xFFFFFFFFFFFF ≡ true → individualIn s ≡ true → leb t 0xFFFFFFFF ≡ true
       → Has d s t k l (bodyOf words) f → writeLeft 0 (f ++ drop 60 o) ≡ written (writingOf words) o
   unfolding writingOf isMessage messageOf messageWords writeOf fitsMessage encode
   taken f hd hs ht h =
@@ -69,24 +70,24 @@ module _ (d s t k : ℕ) (l o : List ℕ) where
   -- words that are a message's, which fits: what is then known
   fitting : (bs : List Bool) → (kindOf (bodyOf words) ≡ k → bodyWords (bodyOf words) ≡ l → fitsBody (bodyOf words) ≡ true → Each bs)
       → isMessage words ≡ true → fitsMessage (messageOf words) ≡ true
-      → chain (leb d 0xFFFFFFFFFFFF) (leb s 0xFFFFFFFFFFFF ∷ leb t 0xFFFFFFFF ∷ bs) ≡ true
+      → chain (leb d 0xFFFFFFFFFFFF) (individualIn s ∷ leb t 0xFFFFFFFF ∷ bs) ≡ true
   unfolding isMessage messageOf messageWords fitsMessage
   fitting bs back m f =
       let e = same-is (messageWords (messageOf words)) words m in
-      let h = each (leb d 0xFFFFFFFFFFFF) (leb s 0xFFFFFFFFFFFF ∷ fitsBody (bodyOf words) ∷ []) f in
+      let h = each (leb d 0xFFFFFFFFFFFF) (individualIn s ∷ fitsBody (bodyOf words) ∷ []) f in
       let stamp = narrow t 0xFFFFFFFF (ap (λ (w : List ℕ). at w 2) e) in
       let rest = back (ap (λ (w : List ℕ). at w 3) e) (ap (λ (w : List ℕ). drop 4 w) e) (h .1 .1 .0) in
-      passed (leb d 0xFFFFFFFFFFFF) (leb s 0xFFFFFFFFFFFF ∷ leb t 0xFFFFFFFF ∷ bs) (h .0) (h .1 .0, (stamp, rest))
+      passed (leb d 0xFFFFFFFFFFFF) (individualIn s ∷ leb t 0xFFFFFFFF ∷ bs) (h .0) (h .1 .0, (stamp, rest))
 
   -- tests that are passed by just the words of messages that have a frame
   pub paged : (bs : List Bool) (f : List ℕ) → (Each bs → Has d s t k l (bodyOf words) f)
       → (kindOf (bodyOf words) ≡ k → bodyWords (bodyOf words) ≡ l → fitsBody (bodyOf words) ≡ true → Each bs)
-      → laidOut (chain (leb d 0xFFFFFFFFFFFF) (leb s 0xFFFFFFFFFFFF ∷ leb t 0xFFFFFFFF ∷ bs)) f o ≡ written (writingOf words) o
+      → laidOut (chain (leb d 0xFFFFFFFFFFFF) (individualIn s ∷ leb t 0xFFFFFFFF ∷ bs)) f o ≡ written (writingOf words) o
   paged bs f forth back =
-      let tests = chain (leb d 0xFFFFFFFFFFFF) (leb s 0xFFFFFFFFFFFF ∷ leb t 0xFFFFFFFF ∷ bs) in
+      let tests = chain (leb d 0xFFFFFFFFFFFF) (individualIn s ∷ leb t 0xFFFFFFFF ∷ bs) in
       ⊎-elim
       (λ (e : tests ≡ true).
-      let h = each (leb d 0xFFFFFFFFFFFF) (leb s 0xFFFFFFFFFFFF ∷ leb t 0xFFFFFFFF ∷ bs) e in
+      let h = each (leb d 0xFFFFFFFFFFFF) (individualIn s ∷ leb t 0xFFFFFFFF ∷ bs) e in
       rw e (taken f (h .0) (h .1 .0) (h .1 .1 .0) (forth (h .1 .1 .1))))
       (λ (e : tests ≡ false). rw e (none (λ m q. true≢false (sym (fitting bs back m q) ∙ e))))
       (decided tests)

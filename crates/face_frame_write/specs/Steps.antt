@@ -8,6 +8,7 @@ use lib.Dec.{eqb, leb, ltb}
 use lib.ListN.{drop, replicate}
 use Rattle.octets.specs.Octets.{bytes}
 use Rattle.frame.specs.Layout.{frameOf}
+use Rattle.frame.specs.Range.{individualIn}
 use Rattle.frame_writer.specs.Write.{over}
 use Rattle.face_words.specs.Words.{upper, lower}
 use Rattle.face_frame_write.specs.Write.{WriteLeft, writeLeft}
@@ -17,7 +18,7 @@ abbrev pub laidOut : Bool → List ℕ → List ℕ → WriteLeft
 laidOut t frame o = cond t (writeLeft 0 (frame ++ drop 60 o)) (writeLeft 4 (replicate 60 0 ++ drop 60 o))
 
 abbrev pub headerIn : ℕ → ℕ → ℕ → Bool
-headerIn d s t = leb d 0xFFFFFFFFFFFF && leb s 0xFFFFFFFFFFFF && leb t 0xFFFFFFFF
+headerIn d s t = leb d 0xFFFFFFFFFFFF && individualIn s && leb t 0xFFFFFFFF
 
 -- a grant's word, whose length has two octets; one that isn't there is 0
 abbrev pub grantIn : ℕ → Bool → Bool

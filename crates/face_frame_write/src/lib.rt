@@ -11,6 +11,7 @@ ghost use Rattle.frame_writer.specs.Write.{over};
 ghost use Rattle.face_frame_write.specs.Write.{writeLeft, writingOf, written, writeCall};
 ghost use Rattle.face_frame_write.specs.Steps.{headerIn, grantIn, forceIn, gateIn, grantOver, gateLaid, discoveryLaid, reportLaid, registerReqLaid, registerLaid, registerAckLaid};
 use face_words::SHORT;
+use frame::Address;
 use frame::Body;
 use frame::Message;
 
@@ -62,7 +63,9 @@ fn refuse(o: &mut [u8]) -> u8
 fn header_in(destination: u64, source: u64, timestamp: u64) -> bool
     ensures { λ r. ⌜ r ≡ headerIn destination source timestamp ⌝ }
 {
-    (destination <= 0xFFFFFFFFFFFF) & (source <= 0xFFFFFFFFFFFF) & (timestamp <= 0xFFFFFFFF)
+    (destination <= 0xFFFFFFFFFFFF)
+        & frame_range::individual(Address(source))
+        & (timestamp <= 0xFFFFFFFF)
 }
 
 fn grant_in(grant: u64, there: bool) -> bool

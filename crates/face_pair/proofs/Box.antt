@@ -25,8 +25,7 @@ use Rattle.box_calls.specs.declared.Answer.{Answer}
 use Rattle.box_calls.specs.declared.FloorBox.{FloorBox}
 use Rattle.box_laws.specs.Stated as calls
 use Rattle.box_laws.specs.Calls.{Outcome, unsound, refuses, accepts, outcome, refused-unchanged}
-use Rattle.box_laws.specs.Stated.{Call, answer}
-use Rattle.box_laws.specs.Frames.{CallTyped}
+use Rattle.box_laws.specs.Stated.{Call, answer, CallTyped}
 use Rattle.face_words.specs.Laws.{laid-whole}
 use Rattle.face_words.specs.Words.{laid}
 use Rattle.pair_wire.specs.Carried.{carries-valid}

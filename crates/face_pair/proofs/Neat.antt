@@ -55,8 +55,7 @@ use Rattle.box_calls.specs.Answer.{accepted}
 use Rattle.box_calls.specs.declared.Answer.{Answer}
 use Rattle.box_calls.specs.declared.FloorBox.{FloorBox}
 use Rattle.box_laws.specs.Calls.{step, Outcome, unsound, refuses, accepts, outcome}
-use Rattle.box_laws.specs.Stated.{Call, register, deregister, hear, tick, answer}
-use Rattle.box_laws.specs.Frames.{CallTyped}
+use Rattle.box_laws.specs.Stated.{Call, register, deregister, hear, tick, answer, CallTyped}
 use Rattle.box_laws.proofs.Activated.{activate-leaves}
 
 pub record Neat (p : Processes) : Type 0 where

@@ -11,7 +11,7 @@ use lib.ListN.{length}
 use Rattle.laws.specs.Cases.{either, decided}
 use Rattle.octets.specs.Octets.{fieldOf}
 use Rattle.frame.specs.Card.{numberOf}
-use Rattle.frame.specs.Reading.{bodyInRange}
+use Rattle.frame.specs.Reading.{bodyInRange, sourceInRange}
 use Rattle.frame.specs.declared.Address.{Address}
 use Rattle.frame.specs.declared.Reading.{Reading}
 use Rattle.frame_range.specs.Fits.{isIndividual}
@@ -53,7 +53,7 @@ control-never : (l : List ℕ) → Other (readControl l)
 unfolding readControl
 control-never l =
     either Other (leb 2 (fieldOf l 14 2) && leb (fieldOf l 14 2) 6) _ _
-    (λ _. either Other (bodyInRange (fieldOf l 14 2) l) _ _ (λ _. omega arith) (λ _. omega arith))
+    (λ _. either Other (sourceInRange l && bodyInRange (fieldOf l 14 2) l) _ _ (λ _. omega arith) (λ _. omega arith))
     (λ _. omega arith)
 
 read-never : (l : List ℕ) → Other (readOf l)

@@ -1,12 +1,19 @@
--- Rules R45, R47: which messages are in range, those that have a frame. A number is as long as its field.
+-- Rules R45 to R48, R237: which messages are in range, those that have a frame. A number is as long as its field.
 -- Assumes nothing.
-use Prim.Native.Nat.{_^_, _<_}
+use Prim.Native.Nat.{ℕ, _/_, _%_, _^_, _<_}
+use mathlib.Core.Path.{_≡_}
+use mathlib.Core.Bool.{Bool, true, _&&_}
 use mathlib.Core.List.{List, [], _∷_}
+use lib.Dec.{eqb, leb, ltb}
 use Rattle.frame.specs.Layout.{listed}
 use Rattle.frame.specs.declared.Grant.{Grant}
 use Rattle.frame.specs.declared.Body.{Body}
 use Rattle.frame.specs.declared.Body.the-variants.{Gate, Discovery, Report, RegisterReq, Register, RegisterAck}
 use Rattle.frame.specs.declared.Message.{Message}
+
+-- R46: an individual address, and not zero; a group's has the lowest bit of its first octet set, bit 40 of the number
+abbrev pub individualIn : ℕ → Bool
+individualIn a = leb a 0xFFFFFFFFFFFF && ltb 0 a && eqb (a / 2 ^ 40 % 2) 0
 
 abbrev pub GrantFits : Grant → Type 0
 GrantFits g = (g .start .0 < 2 ^ 32) × (g .length .0 < 2 ^ 16)
@@ -25,8 +32,10 @@ BodyFits (RegisterAck flag port sync) = (port < 2 ^ 16) × (sync .0 < 2 ^ 16)
 
 -- a message that has a frame
 pub record Valid (m : Message) : Type 0 where
+  -- R48
   pub destination : m .destination .0 < 2 ^ 48
-  pub source : m .source .0 < 2 ^ 48
+  -- R237
+  pub source : individualIn (m .source .0) ≡ true
   pub timestamp : m .timestamp .0 < 2 ^ 32
   pub body : BodyFits (m .body)
 

@@ -1,4 +1,4 @@
--- Rules R37 to R44, R50, R51, R67: what reading answers.
+-- Rules R37 to R44, R48, R50, R51, R67, R237: what reading answers.
 -- Assumes nothing.
 use Prim.Native.Nat.{ℕ, _+_, _/_, _%_, _^_}
 use mathlib.Core.Path.{_≡_}
@@ -9,7 +9,7 @@ use lib.ListN.{length}
 use Rattle.octets.specs.Octets.{fieldOf}
 use Rattle.frame.specs.Card.{Test, _unless_, answerOf}
 use Rattle.frame.specs.Layout.{bodyOctets, encode, zeroPad}
-use Rattle.frame.specs.Range.{Valid}
+use Rattle.frame.specs.Range.{individualIn, Valid}
 use Rattle.frame.specs.declared.Body.the-variants.{Report}
 use Rattle.frame.specs.declared.Message.{Message}
 use Rattle.frame.specs.declared.Reading.{Reading}
@@ -40,13 +40,17 @@ bodyInRange opcode l =
     -- R44
     (oneOf (fieldOf l 20 1) (0 ∷ 1 ∷ [])))))
 
+-- R237; the destination, R48, is any
+unfoldable pub sourceInRange : List ℕ → Bool
+sourceInRange l = individualIn (fieldOf l 6 6)
+
 -- R67, with R53 to R56
 abbrev pub readingTests : List ℕ → List Test
 readingTests l =
     Size unless eqb (length l) 60
     ∷ Kind unless eqb (fieldOf l 12 2) 0x8808
     ∷ Opcode unless (leb 2 (fieldOf l 14 2) && leb (fieldOf l 14 2) 6)
-    ∷ Range unless bodyInRange (fieldOf l 14 2) l
+    ∷ Range unless (sourceInRange l && bodyInRange (fieldOf l 14 2) l)
     ∷ []
 
 -- R51: a frame carries a message if, with its pad zeroed, it is what the layout has for the message

@@ -2,13 +2,17 @@
 -- Assumes nothing.
 use Prim.Native.Nat.{ℕ, _+_}
 use mathlib.Core.Path.{_≡_, sym, ap, _∙_}
+use mathlib.Core.Bool.{true}
 use mathlib.Core.List.{List}
+use native.Mathlib.Omega.{arith}
 use lib.ListN.{length}
 use Rattle.octets.specs.Octets.{Octets}
+use Rattle.frame.specs.Card.{numberOf}
 use Rattle.frame.specs.Layout.{bodyOctets, zeroPad}
 use Rattle.frame.specs.Range.{Valid, Typed}
 use Rattle.frame.specs.Reading.{Carries, Reads}
-use Rattle.frame.specs.Writing.{Writes}
+use Rattle.frame.specs.Writing.{Writes, written, refused}
+use Rattle.frame_range.specs.Fits.{isIndividual}
 use Rattle.frame_reader.specs.Decode.{readOf}
 use Rattle.frame_writer.specs.Write.{writeOf}
 use Rattle.frame.specs.declared.Message.{Message}
@@ -53,3 +57,16 @@ read-page-settles l r s p q = reads-only l r p ∙ sym (reads-only l s q)
 
 pub write-page-settles : (m : Message) (w x : Writing) → Writes m w → Writes m x → w ≡ x
 write-page-settles = writes-only
+
+-- 5. R238: what is read, and what is written, has a source that is individual and not zero
+pub read-source : (l : List ℕ) (r : Reading) → Octets l → Read l r → r .reply ≡ Done → isIndividual (r .message .source) ≡ true
+read-source l r h p d =
+    let c : Carries l (r .message) = rw (← read-is p) at (carried l h) d in
+    c .valid .source
+
+pub write-source : (m : Message) (w : Writing) → Typed m → Wrote m w → w .reply ≡ Done → isIndividual (m .source) ≡ true
+write-source m w t p d = written-source (write-page m w t p)
+  where
+    written-source : Writes m w → isIndividual (m .source) ≡ true
+    written-source (written v e) = v .source
+    written-source (refused n e) = absurd (omega (arith, ap (λ (x : Writing). numberOf (x .reply)) (sym e) ∙ ap numberOf d))

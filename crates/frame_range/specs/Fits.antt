@@ -1,11 +1,11 @@
--- Rules R45, R46, R73: whether a message is in range, as a test; which addresses are individual.
+-- Rules R45 to R48, R73, R237: whether a message is in range, as a test; which addresses are individual.
 -- Assumes nothing.
-use Prim.Native.Nat.{_/_, _%_, _^_}
 use mathlib.Core.Bool.{Bool, true, _&&_}
 use mathlib.Core.List.{List, [], _∷_}
-use lib.Dec.{eqb, leb, ltb}
+use lib.Dec.{leb}
 use Rattle.clock.specs.Numbers.{fits}
 use Rattle.frame.specs.Layout.{listed}
+use Rattle.frame.specs.Range.{individualIn}
 use Rattle.frame.specs.declared.Address.{Address}
 use Rattle.frame.specs.declared.Grant.{Grant}
 use Rattle.frame.specs.declared.Body.{Body}
@@ -15,9 +15,9 @@ use Rattle.frame.specs.declared.Message.{Message}
 abbrev pub fitsAddress : Address → Bool
 fitsAddress a = leb (a .0) 0xFFFFFFFFFFFF
 
--- individual and nonzero: a group's address has an odd first octet
+-- individual and not zero
 abbrev pub isIndividual : Address → Bool
-isIndividual a = fitsAddress a && ltb 0 (a .0) && eqb (a .0 / 2 ^ 40 % 2) 0
+isIndividual a = individualIn (a .0)
 
 abbrev pub fitsGrant : Grant → Bool
 fitsGrant g = fits (g .length)
@@ -35,4 +35,4 @@ fitsBody (Register port flag sync pending) = fits sync
 fitsBody (RegisterAck flag port sync) = fits sync
 
 unfoldable pub fitsMessage : Message → Bool
-fitsMessage m = fitsAddress (m .destination) && fitsAddress (m .source) && fitsBody (m .body)
+fitsMessage m = fitsAddress (m .destination) && isIndividual (m .source) && fitsBody (m .body)

@@ -16,7 +16,7 @@ pub fn address(a: Address) -> bool
     a.0 <= largest.0
 }
 
-// An own address, or a link's: not zero, and no group's, whose first octet is odd. The bits above the address are looked at like that octet's.
+// An own address, a link's, or a source: not zero, and no group's, whose first octet is odd. The bits above the address are looked at like that octet's.
 pub fn individual(a: Address) -> bool
     ensures { λ r. ⌜ r ≡ isIndividual a ⌝ }
 {
@@ -74,5 +74,5 @@ pub fn message(m: Message) -> bool
     let destination = m.destination;
     let source = m.source;
     let said = m.body;
-    address(destination) & address(source) & body(said)
+    address(destination) & individual(source) & body(said)
 }

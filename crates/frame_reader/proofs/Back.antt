@@ -15,7 +15,7 @@ use Rattle.octets.specs.Laws.{length-part, bytes-field, field-below, join, join
 use Rattle.frame.specs.Card.{numberOf}
 use Rattle.frame.specs.Layout.{headerOf, frameOf, gateOctets, registerReqFlag, registerFlag, registerAckFlag, opcodeOf, bodyOctets, encode, zeroPad}
 use Rattle.frame.specs.Range.{BodyFits}
-use Rattle.frame.specs.Reading.{oneOf, gateInRange, bodyInRange, Carries}
+use Rattle.frame.specs.Reading.{oneOf, gateInRange, bodyInRange, sourceInRange, Carries}
 use Rattle.frame_reader.specs.Decode.{bit, quantaAt, grantAt, gateOf, gateAt, registerReqAt, registerAt, registerAckAt, bodyAt, messageAt, readControl, readOf}
 use Rattle.frame_reader.specs.Flags.{few, registerReqFlagOf, registerFlagOf, registerAckFlagOf}
 use Rattle.frame_reader.proofs.Forth.{body-short, reads-padded}
@@ -223,14 +223,15 @@ module _ (l : List ℕ) (h : Octets l) (sixty : length l ≡ 60) where
 abbrev CarriesOf : List ℕ → Reading → Type 0
 CarriesOf l r = r .reply ≡ Done → Carries l (r .message)
 
-message-carried : (l : List ℕ) → Octets l → length l ≡ 60 → fieldOf l 12 2 ≡ 0x8808 → Whole l (fieldOf l 14 2) (bodyAt (fieldOf l 14 2) l) → Carries l (messageAt l)
-unfolding encode messageAt
-message-carried l h s k w =
+message-carried : (l : List ℕ) → Octets l → length l ≡ 60 → fieldOf l 12 2 ≡ 0x8808 → sourceInRange l ≡ true
+    → Whole l (fieldOf l 14 2) (bodyAt (fieldOf l 14 2) l) → Carries l (messageAt l)
+unfolding encode messageAt sourceInRange
+message-carried l h s k i w =
     record {
       valid =
           record {
             destination = bound l h s 0 6 (omega arith);
-            source = bound l h s 6 6 (omega arith);
+            source = i;
             timestamp = bound l h s 16 4 (omega arith);
             body = w .fits;
           };
@@ -248,11 +249,13 @@ carried l h =
     (λ k.
     either (CarriesOf l) (leb 2 op && leb op 6) _ _
     (λ o.
-    either (CarriesOf l) (bodyInRange op l) _ _
+    either (CarriesOf l) (sourceInRange l && bodyInRange op l) _ _
     (λ t _.
     let s : length l ≡ 60 = eqb-true (length l) 60 e in
     let known = and-eq-true-iff (leb 2 op) (leb op 6) .0 o in
-    message-carried l h s (eqb-true (fieldOf l 12 2) 0x8808 k) (body-whole l h s op (leb-true 2 op (known .0)) (leb-true op 6 (known .1)) t))
+    let fits = and-eq-true-iff (sourceInRange l) (bodyInRange op l) .0 t in
+    message-carried l h s (eqb-true (fieldOf l 12 2) 0x8808 k) (fits .0)
+    (body-whole l h s op (leb-true 2 op (known .0)) (leb-true op 6 (known .1)) (fits .1)))
     (λ _ d. absurd (refused {r = Range} (omega arith) d)))
     (λ _ d. absurd (refused {r = Opcode} (omega arith) d)))
     (λ _ d. absurd (refused {r = Kind} (omega arith) d)))

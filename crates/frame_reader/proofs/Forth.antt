@@ -10,8 +10,9 @@ use lib.ListN.{length, drop, replicate, length-append, length-replicate}
 use Rattle.octets.specs.Octets.{onto, bytes, value, fieldOf}
 use Rattle.octets.specs.Laws.{value-bytes}
 use Rattle.frame.specs.Layout.{headerOf, listed, firstOctet, perGrant, registerReqFlag, registerFlag, registerAckFlag, opcodeOf, bodyOctets, encode}
-use Rattle.frame.specs.Range.{GrantFits, GrantsFit, BodyFits, Valid}
-use Rattle.frame.specs.Reading.{oneOf, bodyInRange}
+use Rattle.frame.specs.Range.{individualIn, GrantFits, GrantsFit, BodyFits, Valid}
+use Rattle.frame.specs.Reading.{oneOf, bodyInRange, sourceInRange}
+use Rattle.frame_range.specs.Laws.{individual-parts}
 use Rattle.frame_reader.specs.Decode.{bit, grantAt, quantaAt, gateOf, gateAt, registerReqAt, registerAt, registerAckAt, bodyAt, messageAt, readControl, readOf}
 use Rattle.frame_reader.specs.Flags.{few, registerReqFlagOf, registerFlagOf, registerAckFlagOf}
 use Rattle.frame_reader.proofs.Gate.{listed-few, listed-short, length-grants, four-from, take-from, reads-from, octet-number, octet-discovery, octet-force, octet-fits, octet-in-range}
@@ -157,6 +158,10 @@ module _ (destination source timestamp : ℕ) (pad : List ℕ) where
   body-ranged (RegisterAck flag port sync) =
       rw (value-bytes 1 (registerAckFlag flag) (register-ack-octet flag)) (register-ack-ranged flag)
 
+  source-ranged : individualIn source ≡ true → (b : Body) → sourceInRange (framed b) ≡ true
+  unfolding sourceInRange onto
+  source-ranged i b = rw (value-bytes 6 source (individual-parts source i .0)) i
+
 opcode-fits : (b : Body) → opcodeOf b < 2 ^ 16
 opcode-fits (Gate g) = omega arith
 opcode-fits (Discovery g sync) = omega arith
@@ -194,12 +199,19 @@ reads-padded m pad v forty =
       value-bytes 2 0x8808 (omega arith),
       value-bytes 2 (opcodeOf b) (opcode-fits b),
       opcode-known b,
+      source-ranged (m .destination .0) (m .source .0) (m .timestamp .0) pad (v .source) b,
       body-ranged (m .destination .0) (m .source .0) (m .timestamp .0) pad b,
       body-reads (m .destination .0) (m .source .0) (m .timestamp .0) pad b (v .body),
       value-bytes 6 (m .destination .0) (v .destination),
-      value-bytes 6 (m .source .0) (v .source),
+      value-bytes 6 (m .source .0) (individual-parts (m .source .0) (v .source) .0),
       value-bytes 4 (m .timestamp .0) (v .timestamp),
     )
+
+-- the source of a valid message stands in its frame
+pub source-encoded : (m : Message) → Valid m → sourceInRange (encode m) ≡ true
+unfolding encode
+source-encoded m v =
+    source-ranged (m .destination .0) (m .source .0) (m .timestamp .0) (replicate (40 - length (bodyOctets (m .body))) 0) (v .source) (m .body)
 
 -- THE FIRST ROUND TRIP: what is written of a valid message is read as that message
 pub read-encode : (m : Message) → Valid m → readOf (encode m) ≡ record { reply = Done; message = m }

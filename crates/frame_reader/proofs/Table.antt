@@ -12,7 +12,7 @@ use lib.ListN.{length}
 use Rattle.laws.specs.Cases.{either}
 use Rattle.octets.specs.Octets.{fieldOf, Octets}
 use Rattle.frame.specs.Card.{numberOf, _unless_, answerOf}
-use Rattle.frame.specs.Reading.{bodyInRange, readingTests, refusal, Reads, taken, refused}
+use Rattle.frame.specs.Reading.{bodyInRange, sourceInRange, readingTests, refusal, Reads, taken, refused}
 use Rattle.frame_reader.specs.Decode.{messageAt, readControl, readOf}
 use Rattle.frame_reader.proofs.Back.{carried, carries-read}
 use Rattle.frame.specs.declared.Message.{Message}
@@ -39,7 +39,7 @@ module _ (l : List ℕ) where
       either P (eqb (fieldOf l 12 2) 0x8808) _ _
       (λ _.
       either P (leb 2 (fieldOf l 14 2) && leb (fieldOf l 14 2) 6) _ _
-      (λ _. either P (bodyInRange (fieldOf l 14 2) l) _ _ (λ _. done) (λ _. range))
+      (λ _. either P (sourceInRange l && bodyInRange (fieldOf l 14 2) l) _ _ (λ _. done) (λ _. range))
       (λ _. opcode))
       (λ _. kind))
       (λ _. size)
@@ -66,7 +66,7 @@ pub answered : (l : List ℕ) → readOf l .reply ≡ answerOf (readingTests l)
 unfolding readOf readControl
 answered l =
     let op = fieldOf l 14 2 in
-    answer-of (eqb (length l) 60) (eqb (fieldOf l 12 2) 0x8808) (leb 2 op && leb op 6) (bodyInRange op l) (messageAt l)
+    answer-of (eqb (length l) 60) (eqb (fieldOf l 12 2) 0x8808) (leb 2 op && leb op 6) (sourceInRange l && bodyInRange op l) (messageAt l)
 
 -- the reader's answer is what the page says
 pub reads : (l : List ℕ) → Octets l → Reads l (readOf l)

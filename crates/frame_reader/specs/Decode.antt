@@ -7,7 +7,7 @@ use mathlib.Core.List.{List, [], _∷_}
 use lib.Dec.{eqb, leb}
 use lib.ListN.{length, take}
 use Rattle.octets.specs.Octets.{fieldOf}
-use Rattle.frame.specs.Reading.{bodyInRange, refusal}
+use Rattle.frame.specs.Reading.{bodyInRange, sourceInRange, refusal}
 use Rattle.clock.specs.declared.Quanta.{Quanta}
 use Rattle.frame.specs.declared.Grant.{Grant}
 use Rattle.frame.specs.declared.Body.{Body}
@@ -72,7 +72,7 @@ messageAt l =
 unfoldable pub readControl : List ℕ → Reading
 readControl l =
     cond (leb 2 (fieldOf l 14 2) && leb (fieldOf l 14 2) 6)
-    (cond (bodyInRange (fieldOf l 14 2) l) (record { reply = Done; message = messageAt l }) (refusal Range))
+    (cond (sourceInRange l && bodyInRange (fieldOf l 14 2) l) (record { reply = Done; message = messageAt l }) (refusal Range))
     (refusal Opcode)
 
 unfoldable pub readOf : List ℕ → Reading

@@ -3,7 +3,7 @@ ghost use mathlib.Core.Path.{_≡_};
 ghost use Prim.Native.Nat.{_+_, _≤_, _<_, _^_};
 ghost use mathlib.Core.List.{[], _∷_};
 ghost use lib.ListN.{length, take};
-ghost use Rattle.frame.specs.Reading.{gateInRange, bodyInRange, refusal};
+ghost use Rattle.frame.specs.Reading.{gateInRange, bodyInRange, sourceInRange, refusal};
 ghost use Rattle.octets.specs.Octets.{fieldOf};
 ghost use Rattle.frame_reader.specs.Decode.{quantaAt, grantAt, gateOf, gateAt, registerReqAt, registerAt, registerAckAt, bodyAt, messageAt, readControl, readOf};
 ghost use Rattle.frame_reader.specs.Flags.{few, registerReqFlagOf, registerFlagOf, registerAckFlagOf};
@@ -193,6 +193,14 @@ fn body_in_range(s: &[u8], opcode: u64) -> bool
     (first == 0) | (first == 1)
 }
 
+// Whether the source is individual and not zero.
+fn source_in_range(s: &[u8]) -> bool
+    requires { ⌜ length (now s) ≡ 60 ⌝ }
+    ensures { λ r. ⌜ r ≡ sourceInRange (now (s .entry)) ⌝ }
+{
+    frame_range::individual(Address(field(s, 6, 6)))
+}
+
 // A body with a known opcode, of fields that are in range.
 fn body_at(s: &[u8], opcode: u64) -> Body
     requires { ⌜ length (now s) ≡ 60 ⌝ }
@@ -248,7 +256,7 @@ fn read_control(s: &[u8]) -> Reading
 {
     let opcode = field(s, 14, 2);
     if (Body::GATE <= opcode) & (opcode <= Body::REGISTER_ACK) {
-        if body_in_range(s, opcode) {
+        if source_in_range(s) & body_in_range(s, opcode) {
             let message = message_at(s);
             return Reading {
                 reply: Reply::Done,

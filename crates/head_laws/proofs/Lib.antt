@@ -1,3 +1,4 @@
 pub mod Inside
 pub mod Notices
 pub mod Periodic
+pub mod Sources

@@ -8,7 +8,7 @@ use mathlib.Core.Logic.{_⊎_, inl, inr}
 use native.Mathlib.Omega.{arith}
 use lib.ListN.{length, length-append}
 use Rattle.frame.specs.declared.Message.{Message}
-use Rattle.frame_range.specs.Fits.{fitsAddress, fitsMessage}
+use Rattle.frame_range.specs.Fits.{isIndividual, fitsMessage}
 use Rattle.frame_range.specs.Laws.{valid-of}
 use Rattle.lent.specs.Folds.{each}
 use Rattle.head_links.specs.declared.Link.{Link}
@@ -32,7 +32,7 @@ both-valid (m ∷ ms) ns v w = (v .0, both-valid ms ns (v .1) w)
 
 -- frames go from the head's own address with the head's count
 abbrev pub SenderFits : Sender → Type 0
-SenderFits s = (fitsAddress (s .source) ≡ true) × (s .timestamp .0 < 2 ^ 32)
+SenderFits s = (isIndividual (s .source) ≡ true) × (s .timestamp .0 < 2 ^ 32)
 
 sent-valid : (s : Sender) (sent : Sent) → SenderFits s → SentFits sent → AllValid (sentBy s sent)
 unfolding fitsMessage

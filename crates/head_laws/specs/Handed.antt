@@ -28,7 +28,6 @@ use Rattle.head_laws.specs.Calls.{tests, planned, known, Outcome, unsoun
 use Rattle.head_laws.specs.Events.{table-parts}
 use Rattle.head_laws.specs.Frames.{SenderFits, links-few, nothing-frames, frames-apart, frames-valid, frames-packed}
 use Rattle.head_laws.specs.Heard.{heard-message}
-use Rattle.head_laws.specs.Links.{individual-fits}
 use Rattle.head_laws.specs.Pasted.{packed}
 use Rattle.head_laws.specs.Stated.{encoded, framesOf, AllValid, callFrames, RequestTyped}
 use Rattle.head_laws.specs.Refusals.{nothing-sent}
@@ -77,8 +76,7 @@ module _ (h : Head) (xs : List Link) (r : Call) (os : List ℕ) (k : RequestType
       let p = planned r h f in
       let w = table-parts xs u in
       let some = leb-true 1 (length xs) (and-eq-true-iff (leb 1 (length xs)) (leb (length xs) 64) .0 (w .0) .0) in
-      let i : SenderFits (senderOf p) =
-      (individual-fits (p .head .address) (head-parts (p .head) (planned-head r h f t s) .0), planned-count r h f t c) in
+      let i : SenderFits (senderOf p) = (head-parts (p .head) (planned-head r h f t s) .0, planned-count r h f t c) in
       let few = frames-apart p xs (length xs) (planned-apart r h f t) some (links-few (p .event) (senderOf p) 1 xs) in
       let e = planned-event r h f k t in
       let g = planned-lead r h f k t in

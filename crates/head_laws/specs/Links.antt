@@ -1,14 +1,15 @@
 -- Lemmas: of one link: what is known of a sound link in its state, where a link is held, and that a link that is made anew is sound.
 -- Assumes nothing.
-use Prim.Native.Nat.{ℕ, _/_, _%_, _^_}
+use Prim.Native.Nat.{ℕ}
 use mathlib.Core.Path.{_≡_, refl, sym, ap, _∙_}
 use mathlib.Core.Bool.{Bool, true, _&&_, and-eq-true-iff, false≢true}
 use borrow.Author.Tests.{eqb-true, eq-eqb}
-use lib.Dec.{eqb, ltb}
+use lib.Dec.{eqb}
 use Rattle.clock.specs.Numbers.{watchdog, periodic, wait}
 use Rattle.clock.specs.Timers.{off, runs}
 use Rattle.frame.specs.declared.Address.{Address}
 use Rattle.frame_range.specs.Fits.{fitsAddress, isIndividual}
+use Rattle.frame_range.specs.Laws.{individual-fits}
 use Rattle.head_links.specs.Link.{idle, waitingAt, registeredAt, isHeld, isRegistered}
 use Rattle.head_links.specs.Sound.{soundIn, soundOf}
 use Rattle.head_links.specs.declared.Link.{Link}
@@ -32,12 +33,6 @@ registered-is Registered h = refl
 
 pub registered-held : (s : State) → isRegistered s ≡ true → isHeld s ≡ true
 registered-held s h = rw (registered-is s h)
-
--- an individual address is one of 48 bits
-pub individual-fits : (a : Address) → isIndividual a ≡ true → fitsAddress a ≡ true
-individual-fits a h =
-    let p = and-eq-true-iff (fitsAddress a && ltb 0 (a .0)) (eqb (a .0 / 2 ^ 40 % 2) 0) .0 h in
-    and-eq-true-iff (fitsAddress a) (ltb 0 (a .0)) .0 (p .0) .0
 
 -- what is sound in a state
 module _ (l : Link) where

@@ -19,6 +19,7 @@ use Rattle.frame.specs.declared.Body.the-variants.{Gate}
 use Rattle.frame.specs.declared.Grants.{Grants}
 use Rattle.frame.specs.declared.Grants.the-variants.{None}
 use Rattle.frame_range.specs.Fits.{fitsAddress, fitsAll, fitsBody}
+use Rattle.frame_range.specs.Laws.{individual-fits}
 use Rattle.head_gating.specs.Asked.{grantsOf, allowed, fits as fitsAsked}
 use Rattle.head_gating.specs.declared.Asked.{Asked}
 use Rattle.head_state.specs.declared.Head.{Head}
@@ -39,7 +40,7 @@ use Rattle.head_requests.specs.Client.{fitsLengths, fitsParty}
 use Rattle.head_judging.specs.declared.Call.{Call}
 use Rattle.head_laws.specs.Calls.{tests, planned}
 use Rattle.head_laws.specs.Heard.{ByMessage, Heeds, heard-message}
-use Rattle.head_laws.specs.Links.{individual-fits, address-fits}
+use Rattle.head_laws.specs.Links.{address-fits}
 use Rattle.head_laws.specs.Sound.{party-parts}
 use Rattle.head_laws.specs.Stated.{RequestTyped}
 

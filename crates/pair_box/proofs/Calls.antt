@@ -9,8 +9,8 @@ use Rattle.box_calls.specs.Answer.{accepted}
 use Rattle.box_calls.specs.declared.Answer.{Answer}
 use Rattle.box_calls.specs.declared.FloorBox.{FloorBox}
 use Rattle.box_laws.specs.Calls.{tests, step, drift, Outcome, unsound, refuses, accepts}
-use Rattle.box_laws.specs.Stated.{Call, answer}
-use Rattle.box_laws.specs.Frames.{CallTyped, countAfter, step-sends, count-below, call-frames}
+use Rattle.box_laws.specs.Stated.{Call, answer, CallTyped}
+use Rattle.box_laws.specs.Frames.{countAfter, step-count, call-frames}
 use Rattle.box_laws.specs.Steady.{call-steady}
 use Rattle.box_laws.proofs.Activated.{activate-leaves}
 use Rattle.pair_wire.specs.Restarts.{upRestarts}
@@ -21,10 +21,6 @@ use Rattle.pair_box.specs.End.{told, BoxEnd}
 use Rattle.pair_box.proofs.Gauge.{Ok, gauge}
 use Rattle.pair_box.proofs.Moves.{Moves, MovedBy}
 use Rattle.pair_box.proofs.Silent.{mute-frames}
-
--- the count stays one
-step-count : (c : Call) (b : FloorBox) → CallTyped c → Passed (tests c b) → b .processes .count .0 < 2 ^ 32 → step c b .next .count .0 < 2 ^ 32
-step-count c b t h k = rw (step-sends c b t h .count) (count-below c b t k)
 
 -- after an accepted call the registration is that of its step
 pub next-registration : (c : Call) (b : FloorBox) → answer c b ≡ accepted b (drift c b) (step c b)

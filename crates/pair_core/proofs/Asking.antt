@@ -1,21 +1,22 @@
 -- A fresh box on its way to REGISTER_REQ: what its calls leave of its processes, whatever its address.
 -- Assumes nothing.
-use Prim.Native.Nat.{ℕ, zero, suc, _/_, _%_, _^_}
+use Prim.Native.Nat.{ℕ, zero, suc}
 use mathlib.Core.Path.{_≡_, refl, ap, sym, _∙_}
-use mathlib.Core.Bool.{true, false, _&&_, and-eq-true-iff, or-true}
+use mathlib.Core.Bool.{true, false, or-true}
 use mathlib.Core.List.{List}
 use mathlib.Core.Option.{some}
 use mathlib.Core.Logic.{_≢_}
 use native.Mathlib.Omega.{arith}
-use borrow.Author.Tests.{eqb-true, eq-eqb, ne-eqb}
-use lib.Dec.{eqb, ltb}
+use borrow.Author.Tests.{eq-eqb, ne-eqb}
+use lib.Dec.{eqb}
 use Rattle.clock.specs.Counts.{distance, reach, nextOf}
 use Rattle.clock.specs.Numbers.{startInRange}
 use Rattle.clock.specs.Timers.{ticked}
 use Rattle.frame.specs.declared.Address.{Address}
 use Rattle.frame.specs.declared.Body.the-variants.{Discovery}
 use Rattle.frame.specs.declared.Message.{Message}
-use Rattle.frame_range.specs.Fits.{fitsAddress, isIndividual}
+use Rattle.frame_range.specs.Fits.{isIndividual}
+use Rattle.frame_range.specs.Laws.{individual-parts}
 use Rattle.box_grants.specs.Listed.{chooseOf}
 use Rattle.box_light.specs.Light.{laserOnFor, randomly}
 use Rattle.box_light.specs.Tick.{tickOf as lightTick}
@@ -93,9 +94,7 @@ module _ (A : Address) where
       }
 
   not-own : {a : Address} → isIndividual a ≡ true → 0x0180C2000001 ≢ a .0
-  not-own {a} i e =
-      let even = and-eq-true-iff (fitsAddress a && ltb 0 (a .0)) (eqb (a .0 / 2 ^ 40 % 2) 0) .0 i .1 in
-      omega (arith, e, eqb-true (a .0 / 2 ^ 40 % 2) 0 even)
+  not-own {a} i e = omega (arith, e, individual-parts (a .0) i .2)
 
   pub at-ticked : (b : FloorBox) (p : Processes) → At p b → At (ticked-on p) (BoxEnd A .tick b tt .next)
   at-ticked b p w =

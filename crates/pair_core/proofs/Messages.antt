@@ -1,11 +1,9 @@
 -- The messages by which head and box become a pair: REGISTER ack, REGISTER_ACK 1, the GATE and the REPORT that follow; each has a frame.
 -- Assumes nothing.
-use Prim.Native.Nat.{_/_, _%_, _^_, _<_}
+use Prim.Native.Nat.{_^_, _<_}
 use mathlib.Core.Path.{_≡_}
-use mathlib.Core.Bool.{true, _&&_, and-eq-true-iff}
+use mathlib.Core.Bool.{true}
 use native.Mathlib.Omega.{arith}
-use borrow.Author.Tests.{leb-true}
-use lib.Dec.{eqb, ltb}
 use Rattle.clock.specs.declared.Count.{Count}
 use Rattle.frame.specs.Range.{BodyFits, Valid}
 use Rattle.frame.specs.declared.Address.{Address}
@@ -15,7 +13,8 @@ use Rattle.frame.specs.declared.Grants.the-variants.{None}
 use Rattle.frame.specs.declared.Message.{Message}
 use Rattle.frame.specs.declared.RegisterAckFlag.{RegisterAckFlag}
 use Rattle.frame.specs.declared.RegisterFlag.{RegisterFlag}
-use Rattle.frame_range.specs.Fits.{fitsAddress, isIndividual}
+use Rattle.frame_range.specs.Fits.{isIndividual}
+use Rattle.frame_range.specs.Laws.{individual-parts}
 use Rattle.box_calls.specs.Answer as box
 use Rattle.head_table.specs.Output.{messageOf}
 use Rattle.head_laws.specs.Stated.{from}
@@ -30,18 +29,13 @@ use Rattle.pair_core.proofs.Quiet.{grantAt, sync, discovery}
 abbrev pub IsCall : Count → Message → Type 0
 IsCall start m = (m .body ≡ Discovery (grantAt start) sync) × (m .destination .0 ≡ 0x0180C2000001)
 
-individual-below : (a : Address) → isIndividual a ≡ true → a .0 < 2 ^ 48
-individual-below a i =
-    let some = and-eq-true-iff (fitsAddress a && ltb 0 (a .0)) (eqb (a .0 / 2 ^ 40 % 2) 0) .0 i .0 in
-    omega (arith, leb-true (a .0) 0xFFFFFFFFFFFF (and-eq-true-iff (fitsAddress a) (ltb 0 (a .0)) .0 some .0))
-
 -- a message of the head that is ready
 head-valid : (to : Address) → to .0 < 2 ^ 48 → (body : Body) → BodyFits body → (s : HeadState) → Ready out s
     → Valid (messageOf (from (s .head)) to body)
 head-valid to k body f s y =
     record {
       destination = k;
-      source = individual-below (s .head .address) (head-parts (s .head) (run-sound (y .ok) .head) .0);
+      source = head-parts (s .head) (run-sound (y .ok) .head) .0;
       timestamp = run-count (y .ok);
       body = f;
     }
@@ -71,7 +65,7 @@ module _ (A : Address) where
 
   module _ (i : isIndividual A ≡ true) (body : Body) (f : BodyFits body) where
     pub to-box-valid : (s : HeadState) → Ready out s → Valid (messageOf (from (s .head)) A body)
-    to-box-valid s y = head-valid A (individual-below A i) body f s y
+    to-box-valid s y = head-valid A (individual-parts (A .0) i .0) body f s y
 
     pub of-box-valid : (t : Count) → t .0 < 2 ^ 32 → Valid (box.messageOf A t body)
-    of-box-valid t k = record { destination = omega arith; source = individual-below A i; timestamp = k; body = f }
+    of-box-valid t k = record { destination = omega arith; source = i; timestamp = k; body = f }

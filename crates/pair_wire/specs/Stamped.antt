@@ -14,7 +14,7 @@ use lib.Seq.{length-take-le, take-at, drop-at, take-append-le, take-take, drop-d
 use Rattle.octets.specs.Laws.{length-onto}
 use Rattle.octets.specs.Octets.{bytes, value, fieldOf}
 use Rattle.frame.specs.Card.{numberOf}
-use Rattle.frame.specs.Reading.{bodyInRange, refusal}
+use Rattle.frame.specs.Reading.{bodyInRange, sourceInRange, refusal}
 use Rattle.frame.specs.declared.Message.{Message}
 use Rattle.frame.specs.declared.Reading.{Reading}
 use Rattle.frame.specs.declared.Reply.the-variants.{Done, Size, Kind, Opcode, Range}
@@ -80,6 +80,10 @@ module _ (l m : List ℕ) (size : length l ≡ length m) (early : take 16 l ≡ 
   unfolding bodyInRange
   range-alike opcode = rw (late, from 2)
 
+  source-alike : sourceInRange l ≡ sourceInRange m
+  unfolding sourceInRange
+  source-alike = rw (front 6 6 (omega arith))
+
   gate-alike : gateAt l ≡ gateAt m
   unfolding gateAt grantAt
   gate-alike = rw (late, from 1, from 5, from 7, from 11, from 13, from 17, from 19, from 23)
@@ -105,9 +109,9 @@ module _ (l m : List ℕ) (size : length l ≡ length m) (early : take 16 l ≡ 
   control-alike =
       let op = fieldOf m 14 2 in
       let known = leb 2 op && leb op 6 in
-      let fits = bodyInRange op m in
+      let fits = sourceInRange m && bodyInRange op m in
       let no = refusal Range in
-      rw (front 14 2 (omega arith), range-alike op)
+      rw (front 14 2 (omega arith), source-alike, range-alike op)
       (both known (cond fits (done l) no) (cond fits (done m) no) (refusal Opcode) (refusal Opcode)
       (both fits (done l) (done m) no no (record { reply = refl; message = message-alike }) (same no))
       (same (refusal Opcode)))

@@ -150,6 +150,7 @@ fn show_refused(destination: Address, source: Address, body: Body) {
 fn show_out_of_range() {
     let address = Address(2);
     let too_large = Address(0x1000000000000);
+    let group = Address(0x031346578A9B);
     let too_long = Quanta(0x10000);
     let grant = Grant {
         start: Count(3),
@@ -159,6 +160,10 @@ fn show_out_of_range() {
     show_refused(too_large, address, Body::Report);
     out::text(b"\n");
     show_refused(address, too_large, Body::Report);
+    out::text(b"\n");
+    show_refused(address, Address(0), Body::Report);
+    out::text(b"\n");
+    show_refused(address, group, Body::Report);
     out::text(b"\n");
     show_refused(address, address, Body::Gate(Grants::One(grant)));
     out::text(b"\n");

@@ -4,7 +4,7 @@ use borrow.Author.Needs.{needs}
 use Rattle.frame.specs.Reading.{bodyInRange}
 use Rattle.frame_reader.specs.Decode.{readControl, messageAt, bodyAt}
 use Rattle.face_frame.specs.Message.{messageWords}
-use Rattle.face_frame_read.proofs.Words.{no-opcode}
+use Rattle.face_frame_read.proofs.Words.{sourced-ranged, no-opcode}
 use Rattle.face_frame_read.proofs.read_control.Statement.{statement}
 use Rattle.face_frame_read.proofs.read_control.Tie as tie
 
@@ -21,7 +21,7 @@ returns : tie.Need-returns
 unfolding readControl bodyInRange messageAt bodyAt
 returns c =
     let i = c .before .before .before .before in
-    rw (c .before .before .read-gate .ensures, ← i .before .field .ensures .0, i .if1 .taken)
+    rw (c .before .before .read-gate .ensures, sourced-ranged, ← i .before .field .ensures .0, i .if1 .taken)
 
 read-report-requires : tie.Need-read-report-requires
 read-report-requires c κs = search needs
@@ -33,7 +33,7 @@ returns-2 : tie.Need-returns-2
 unfolding readControl bodyInRange messageAt bodyAt
 returns-2 c =
     let i = c .before .before .before .before in
-    rw (c .before .before .read-report .ensures, ← i .before .before .field .ensures .0, i .if2 .taken)
+    rw (c .before .before .read-report .ensures, sourced-ranged, ← i .before .before .field .ensures .0, i .if2 .taken)
 
 read-register-req-requires : tie.Need-read-register-req-requires
 read-register-req-requires c κs = search needs
@@ -45,7 +45,7 @@ returns-3 : tie.Need-returns-3
 unfolding readControl bodyInRange messageAt bodyAt
 returns-3 c =
     let i = c .before .before .before .before in
-    rw (c .before .before .read-register-req .ensures, ← i .before .before .before .field .ensures .0, i .if3 .taken)
+    rw (c .before .before .read-register-req .ensures, sourced-ranged, ← i .before .before .before .field .ensures .0, i .if3 .taken)
 
 read-register-requires : tie.Need-read-register-requires
 read-register-requires c κs = search needs
@@ -57,7 +57,7 @@ returns-4 : tie.Need-returns-4
 unfolding readControl bodyInRange messageAt bodyAt
 returns-4 c =
     let i = c .before .before .before .before in
-    rw (c .before .before .read-register .ensures, ← i .before .before .before .before .field .ensures .0, i .if4 .taken)
+    rw (c .before .before .read-register .ensures, sourced-ranged, ← i .before .before .before .before .field .ensures .0, i .if4 .taken)
 
 read-register-ack-requires : tie.Need-read-register-ack-requires
 read-register-ack-requires c κs = search needs
@@ -69,7 +69,7 @@ returns-5 : tie.Need-returns-5
 unfolding readControl bodyInRange messageAt bodyAt
 returns-5 c =
     let i = c .before .before .before .before in
-    rw (c .before .before .read-register-ack .ensures, ← i .before .before .before .before .before .field .ensures .0, i .if5 .taken)
+    rw (c .before .before .read-register-ack .ensures, sourced-ranged, ← i .before .before .before .before .before .field .ensures .0, i .if5 .taken)
 
 refuse-requires : tie.Need-refuse-requires
 refuse-requires c κs = search needs

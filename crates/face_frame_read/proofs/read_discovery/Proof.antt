@@ -2,9 +2,11 @@
 -- Assumes nothing.
 use borrow.Author.Needs.{needs}
 use denote.Ref.{now}
-use Rattle.face_frame_read.specs.Steps.{discoveryRead}
+use mathlib.Core.Path.{ap}
+use mathlib.Core.Bool.{and-false}
+use Rattle.face_frame_read.specs.Steps.{sourced, discoveryRead}
 use Rattle.face_frame.specs.Message.{messageWords}
-use Rattle.face_frame_read.proofs.Words.{discovery-words}
+use Rattle.face_frame_read.proofs.Words.{sourced-ranged, discovery-words}
 use Rattle.face_frame_read.proofs.read_discovery.Statement.{statement}
 use Rattle.face_frame_read.proofs.read_discovery.Tie as tie
 
@@ -35,7 +37,7 @@ returns c =
     let f = g .before .before .before in
     let a = f .before .before .before .args in
     rw (c .before .before .take .ensures, g .grant .ensures, g .before .field2 .ensures .0, f .field .ensures .0)
-    (discovery-words (now (a .s)) (now (a .m)) (rw (← f .field .ensures .0) (g .before .before .if1 .taken)))
+    (ap (sourced (now (a .s)) (now (a .m))) (discovery-words (now (a .s)) (now (a .m)) (rw (← f .field .ensures .0) (g .before .before .if1 .taken))))
 
 refuse-requires : tie.Need-refuse-requires
 refuse-requires c κs = search needs
@@ -47,7 +49,7 @@ returns-2 : tie.Need-returns-2
 unfolding discoveryRead messageWords
 returns-2 c =
     let i = c .before .before .before .before in
-    rw (c .before .before .refuse .ensures, ← i .before .field .ensures .0, i .if1 .left)
+    rw (c .before .before .refuse .ensures, sourced-ranged, ← i .before .field .ensures .0, i .if1 .left, and-false)
 
 pub read-discovery-spec : {M : Type 1} → statement M
 read-discovery-spec =

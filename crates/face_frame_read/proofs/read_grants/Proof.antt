@@ -2,9 +2,11 @@
 -- Assumes nothing.
 use borrow.Author.Needs.{needs}
 use denote.Ref.{now}
-use Rattle.face_frame_read.specs.Steps.{grantsRead}
+use mathlib.Core.Path.{ap}
+use mathlib.Core.Bool.{and-false}
+use Rattle.face_frame_read.specs.Steps.{sourced, grantsRead}
 use Rattle.face_frame.specs.Message.{messageWords}
-use Rattle.face_frame_read.proofs.Words.{grants-words}
+use Rattle.face_frame_read.proofs.Words.{sourced-ranged, grants-words}
 use Rattle.face_frame_read.proofs.read_grants.Statement.{statement}
 use Rattle.face_frame_read.proofs.read_grants.Tie as tie
 
@@ -49,7 +51,7 @@ returns c =
       d .before .before .before .grant .ensures,
       f .field .ensures .0,
     )
-    (grants-words (now (a .s)) (now (a .m)) (rw (← f .field .ensures .0) (i .if1 .taken)))
+    (ap (sourced (now (a .s)) (now (a .m))) (grants-words (now (a .s)) (now (a .m)) (rw (← f .field .ensures .0) (i .if1 .taken))))
 
 refuse-requires : tie.Need-refuse-requires
 refuse-requires c κs = search needs
@@ -61,7 +63,7 @@ returns-2 : tie.Need-returns-2
 unfolding grantsRead messageWords
 returns-2 c =
     let i = c .before .before .before .before in
-    rw (c .before .before .refuse .ensures, ← i .before .field .ensures .0, i .if1 .left)
+    rw (c .before .before .refuse .ensures, sourced-ranged, ← i .before .field .ensures .0, i .if1 .left, and-false)
 
 pub read-grants-spec : {M : Type 1} → statement M
 read-grants-spec =

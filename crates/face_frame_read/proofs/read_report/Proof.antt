@@ -2,7 +2,9 @@
 -- Assumes nothing.
 use borrow.Author.Needs.{needs}
 use borrow.Author.Tests.{ne-eqb}
+use mathlib.Core.Bool.{and-false}
 use Rattle.face_frame.specs.Message.{messageWords}
+use Rattle.face_frame_read.proofs.Words.{sourced-ranged}
 use Rattle.face_frame_read.proofs.read_report.Statement.{statement}
 use Rattle.face_frame_read.proofs.read_report.Tie as tie
 
@@ -31,7 +33,7 @@ returns-2 : tie.Need-returns-2
 unfolding messageWords
 returns-2 c =
     let i = c .before .before .before .before in
-    rw (c .before .before .refuse .ensures, ← i .before .field .ensures .0, ne-eqb _ _ (i .if1 .left))
+    rw (c .before .before .refuse .ensures, sourced-ranged, ← i .before .field .ensures .0, ne-eqb _ _ (i .if1 .left), and-false)
 
 pub read-report-spec : {M : Type 1} → statement M
 read-report-spec =

@@ -8,6 +8,9 @@ use Rattle.frame_reader.proofs.read_control.Tie as tie
 field-requires : tie.Need-field-requires
 field-requires c κs = search needs
 
+source-in-range-requires : tie.Need-source-in-range-requires
+source-in-range-requires c κs = search needs
+
 body-in-range-requires : tie.Need-body-in-range-requires
 body-in-range-requires c κs = search needs
 
@@ -19,8 +22,9 @@ unfolding readControl
 returns c =
     rw (
       c .message-at .ensures,
-      ← c .before .before .before .before .field .ensures .0,
-      c .before .before .before .if1 .taken,
+      ← c .before .before .before .before .before .field .ensures .0,
+      c .before .before .before .before .if1 .taken,
+      ← c .before .before .before .source-in-range .ensures,
       ← c .before .before .body-in-range .ensures,
       c .before .if2 .taken,
     )
@@ -33,8 +37,9 @@ unfolding readControl
 returns-2 c =
     rw (
       c .refused .ensures,
-      ← c .before .before .before .before .field .ensures .0,
-      c .before .before .before .if1 .taken,
+      ← c .before .before .before .before .before .field .ensures .0,
+      c .before .before .before .before .if1 .taken,
+      ← c .before .before .before .source-in-range .ensures,
       ← c .before .before .body-in-range .ensures,
       c .before .if2 .left,
     )
@@ -51,6 +56,7 @@ read-control-spec =
     tie.close
     (tie.spec
     field-requires
+    source-in-range-requires
     body-in-range-requires
     message-at-requires
     returns
