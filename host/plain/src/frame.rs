@@ -35,9 +35,9 @@ const FORCE_SHIFT: u32 = 4;
 /// A control message, as read from a frame or to be written into one.
 #[derive(Clone, Copy, Debug, PartialEq, Eq)]
 pub struct Message {
-    /// Destination.
+    /// Destination: anyone, a group or nobody.
     pub to: Address,
-    /// Source.
+    /// Source: out of range unless a party may hold it.
     pub from: Address,
     /// The sender's count.
     pub stamp: Count,
@@ -155,10 +155,11 @@ pub enum AckFlag {
 }
 
 impl Message {
-    /// Whether addresses, lengths and sync time fit the wire: all else that
-    /// a message can hold does.
+    /// Whether addresses, lengths and sync time are in range: all else that a
+    /// message can hold is. Of the destination its width alone is judged
+    /// (R48), of the source whether a party may hold it (R237).
     pub fn in_range(&self) -> bool {
-        self.to.in_range() && self.from.in_range() && self.body.in_range()
+        self.to.in_range() && self.from.is_individual() && self.body.in_range()
     }
 }
 

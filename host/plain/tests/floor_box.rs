@@ -1,6 +1,6 @@
 //! The box's steps, worked by hand from the rules (R89 to R144).
 
-use plain::frame::{read, AckFlag, RegisterFlag, RequestFlag};
+use plain::frame::{read, write, AckFlag, RegisterFlag, RequestFlag};
 use plain::{
     Address, Body, BoxAnswer, BoxNotice, BoxState, Count, FloorBox, Gate, Grant, GrantList,
     Granted, Light, Message, Next, Refusal,
@@ -8,6 +8,8 @@ use plain::{
 
 const BOX: Address = Address(0x0200_0000_0031);
 const HEAD: Address = Address(0x0A0B_0C0D_0E0F);
+/// A group's: the lowest bit of its first octet is set.
+const GROUP: Address = Address(0x0313_4657_8A9B);
 
 fn grant(start: u32, length: u32) -> Grant {
     let start = Count(start);
@@ -302,9 +304,18 @@ fn order_of_tests_at_the_box() {
     };
     assert_eq!(floor_box.hear(&report, 0), Err(Refusal::WrongWay));
     let long = gate(0, &[grant(0, 65_536)]);
-    let elsewhere = Message { to: other, ..long };
-    assert_eq!(floor_box.hear(&elsewhere, 0), Err(Refusal::NotMine));
-    assert_eq!(floor_box.hear(&long, 0), Err(Refusal::OutOfRange));
+    let grouped = Message {
+        from: GROUP,
+        ..gate(0, &[])
+    };
+    for ranged in [long, grouped] {
+        let elsewhere = Message {
+            to: other,
+            ..ranged
+        };
+        assert_eq!(floor_box.hear(&elsewhere, 0), Err(Refusal::NotMine));
+        assert_eq!(floor_box.hear(&ranged, 0), Err(Refusal::OutOfRange));
+    }
     let everyone = Message {
         to: Address::EVERYONE,
         ..gate(0, &[])
@@ -312,6 +323,42 @@ fn order_of_tests_at_the_box() {
     assert_eq!(floor_box.hear(&everyone, 0), Err(Refusal::NotMine));
     floor_box.wait = 1;
     assert_eq!(floor_box.hear(&report, 0), Err(Refusal::Unsound));
+}
+
+#[test]
+fn a_message_from_a_group_or_nobody_changes_nothing() {
+    let mut floor_box = registered(7, 0);
+    floor_box.watchdog = 5;
+    floor_box.grants = GrantList::of(&[grant(500, 100)]).unwrap();
+    let before = floor_box;
+    for from in [GROUP, Address::ZERO, Address(HEAD.0 | 1 << 48)] {
+        for heard in [
+            gate(9, &[grant(600, 100)]),
+            discovery(9, 600, 100, 0),
+            register(9, RegisterFlag::Deregister, 1, 0),
+        ] {
+            let answer = floor_box.hear(&Message { from, ..heard }, 0);
+            assert_eq!(answer, Err(Refusal::OutOfRange), "{from}");
+            assert_eq!(floor_box, before);
+        }
+    }
+    floor_box.hear(&gate(9, &[]), 0).unwrap();
+    assert_eq!(floor_box.watchdog, 62_500_000);
+}
+
+/// Heard as octets a group's GATE is refused by the reader, ahead of the box.
+#[test]
+fn an_unsound_box_is_told_before_a_group() {
+    let mut floor_box = registered(0, 0);
+    floor_box.wait = 1;
+    let heard = Message {
+        from: GROUP,
+        ..gate(0, &[])
+    };
+    assert_eq!(floor_box.hear(&heard, 0), Err(Refusal::Unsound));
+    let mut frame = write(&gate(0, &[])).unwrap();
+    frame[6..12].copy_from_slice(&[3, 0x13, 0x46, 0x57, 0x8A, 0x9B]);
+    assert_eq!(read(&frame), Err(Refusal::OutOfRange));
 }
 
 #[test]

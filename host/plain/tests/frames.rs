@@ -40,9 +40,38 @@ fn whole(opcode: u8, body: &[u8]) -> Frame {
 }
 
 fn agrees(body: Body, frame: Frame) {
-    assert_eq!(write(&message(body)), Ok(frame));
-    assert_eq!(read(&frame), Ok(message(body)));
+    agree(message(body), frame);
 }
+
+/// The message is written as the frame, and the frame read as the message.
+fn agree(message: Message, frame: Frame) {
+    assert_eq!(write(&message), Ok(frame));
+    assert_eq!(read(&frame), Ok(message));
+}
+
+/// Neither is the message written nor the frame read: both are 4.
+fn out_of_range(message: Message, frame: Frame) {
+    assert_eq!(write(&message), Err(Refusal::OutOfRange), "{message:?}");
+    assert_eq!(read(&frame), Err(Refusal::OutOfRange), "{frame:02x?}");
+}
+
+/// A REPORT to everyone from this source, and its frame with these octets
+/// from the seventh on.
+fn report_from(source: u64, octets: [u8; 6]) -> (Message, Frame) {
+    let message = Message {
+        to: Address::EVERYONE,
+        from: Address(source),
+        stamp: Count(0x6C6D_6E6F),
+        body: Body::Report,
+    };
+    let mut report = vec![0x01, 0x80, 0xC2, 0, 0, 1];
+    report.extend(octets);
+    report.extend([0x88, 0x08, 0, 3, 0x6C, 0x6D, 0x6E, 0x6F]);
+    (message, frame(&report))
+}
+
+/// A box's address with its group bit set, and its octets.
+const GROUP: (u64, [u8; 6]) = (0x0313_4657_8A9B, [3, 0x13, 0x46, 0x57, 0x8A, 0x9B]);
 
 #[test]
 fn gate_of_two_grants_the_second_forced() {
@@ -151,9 +180,108 @@ fn fields_out_of_range_are_four() {
 }
 
 #[test]
+fn individual_sources_are_in_range() {
+    for (source, octets) in [
+        (0x0213_4657_8A9B, [2, 0x13, 0x46, 0x57, 0x8A, 0x9B]),
+        // The lowest bit of the last octet marks no group.
+        (1, [0, 0, 0, 0, 0, 1]),
+        // Nor does any other bit of the first.
+        (0xFE00_0000_0000, [0xFE, 0, 0, 0, 0, 0]),
+    ] {
+        let (message, frame) = report_from(source, octets);
+        agree(message, frame);
+    }
+}
+
+#[test]
+fn sources_of_zero_and_of_groups_are_four() {
+    for (source, octets) in [
+        GROUP,
+        (0, [0; 6]),
+        (0x0100_0000_0000, [1, 0, 0, 0, 0, 0]),
+        (0xFFFF_FFFF_FFFF, [0xFF; 6]),
+        (0x0180_C200_0001, [1, 0x80, 0xC2, 0, 0, 1]),
+    ] {
+        let (message, frame) = report_from(source, octets);
+        out_of_range(message, frame);
+    }
+}
+
+#[test]
+fn the_source_of_every_kind_is_judged() {
+    let bodies: [(u8, &[u8]); 6] = [
+        (2, &[0]),
+        (2, &[9, 0, 0, 0, 0x0A, 0, 0x50, 0, 6]), // discovery
+        (3, &[0]),
+        (4, &[1, 16]),
+        (5, &[0, 1, 3, 0, 5, 16]),
+        (6, &[1, 0, 1, 0, 5]),
+    ];
+    for (opcode, body) in bodies {
+        let mut frame = whole(opcode, body);
+        let individual = read(&frame).unwrap();
+        for (source, octets) in [GROUP, (0, [0; 6])] {
+            frame[6..12].copy_from_slice(&octets);
+            let from = Address(source);
+            out_of_range(Message { from, ..individual }, frame);
+        }
+    }
+}
+
+#[test]
+fn size_type_and_opcode_come_before_the_source() {
+    let (source, octets) = GROUP;
+    let (_, frame) = report_from(source, octets);
+    assert_eq!(read(&frame[..59]), Err(Refusal::NotSixtyOctets));
+    let with = |place: usize, octet: u8| {
+        let mut frame = frame;
+        frame[place] = octet;
+        read(&frame)
+    };
+    assert_eq!(with(13, 9), Err(Refusal::NotControl));
+    assert_eq!(with(15, 7), Err(Refusal::UnknownOpcode));
+    assert_eq!(with(15, 3), Err(Refusal::OutOfRange));
+}
+
+#[test]
+fn destinations_are_not_judged() {
+    for (to, octets) in [
+        (0, [0; 6]),
+        (0x0313_4657_8A9B, [3, 0x13, 0x46, 0x57, 0x8A, 0x9B]),
+        (0xFFFF_FFFF_FFFF, [0xFF; 6]),
+    ] {
+        let mut frame = whole(3, &[0]);
+        frame[..6].copy_from_slice(&octets);
+        let to = Address(to);
+        agree(
+            Message {
+                to,
+                ..message(Body::Report)
+            },
+            frame,
+        );
+    }
+}
+
+#[test]
+fn the_blank_message_has_no_frame() {
+    let blank = Message {
+        to: Address::ZERO,
+        from: Address::ZERO,
+        stamp: Count(0),
+        body: Body::Report,
+    };
+    out_of_range(blank, frame(&[&[0; 12][..], &[0x88, 0x08, 0, 3]].concat()));
+}
+
+#[test]
 fn writer_refuses_what_the_wire_cannot_hold() {
-    let wide_address = Message {
-        from: Address(1 << 48),
+    let wide_source = Message {
+        from: Address(HEAD.0 | 1 << 48),
+        ..message(Body::Report)
+    };
+    let wide_destination = Message {
+        to: Address(1 << 48),
         ..message(Body::Report)
     };
     let long_grant = message(Body::Gate(Gate::of(&[grant(0, 65_536, false)]).unwrap()));
@@ -162,7 +290,7 @@ fn writer_refuses_what_the_wire_cannot_hold() {
         port: 1,
         sync: 65_536,
     });
-    for refused in [wide_address, long_grant, long_sync] {
+    for refused in [wide_source, wide_destination, long_grant, long_sync] {
         assert_eq!(write(&refused), Err(Refusal::OutOfRange));
     }
 }

@@ -1,6 +1,6 @@
 //! The head's steps, worked by hand from the rules (R145 to R190).
 
-use plain::frame::{read, AckFlag, RegisterFlag, RequestFlag};
+use plain::frame::{read, write, AckFlag, RegisterFlag, RequestFlag};
 use plain::{
     Address, Body, Count, Gate, GateRequest, Grant, Granted, Head, HeadAnswer, HeadNotice,
     HeadNoticeKind, Link, LinkState, Message, Newcomer, OpenWindow, Refusal, Window,
@@ -9,6 +9,8 @@ use plain::{
 const HEAD: Address = Address(0x0A0B_0C0D_0E0F);
 const BOX: Address = Address(0x0200_0000_0031);
 const OTHER: Address = Address(0x0200_0000_0032);
+/// A group's: the box's with the lowest bit of its first octet set.
+const GROUP: Address = Address(0x0300_0000_0031);
 
 /// A head with its lent table and output.
 struct Desk {
@@ -300,11 +302,49 @@ fn a_request_is_heard_inside_the_window_on_link_zero_only() {
     desk.head.window = Window::Inside { left: 1 };
     let heard = told(HeadNoticeKind::Request, 0, 0);
     assert_eq!(desk.hear(0, BOX, asks), Ok(heard));
-    assert_eq!(
-        desk.hear(0, Address(1 << 48), asks),
-        Err(Refusal::OutOfRange)
-    );
     assert_eq!(desk.hear(0, BOX, Body::Report), Err(Refusal::NoSuchLink));
+}
+
+#[test]
+fn a_newcomer_is_individual_and_not_zero() {
+    let mut desk = Desk::fresh(1);
+    let asks = request(RequestFlag::Register);
+    let wide = Address(BOX.0 | 1 << 48);
+    // Outside the window 7 comes first.
+    assert_eq!(desk.hear(0, GROUP, asks), Err(Refusal::NotNow));
+    desk.head.window = Window::Inside { left: 1 };
+    let (head, links) = (desk.head, desk.links.clone());
+    for from in [Address::ZERO, GROUP, Address(0xFFFF_FFFF_FFFF), wide] {
+        assert_eq!(desk.hear(0, from, asks), Err(Refusal::OutOfRange), "{from}");
+    }
+    assert_eq!((desk.head, desk.links), (head, links));
+    assert_eq!(desk.output, [0xEE; 60]);
+}
+
+#[test]
+fn a_newcomer_of_a_group_has_no_frame_that_is_read() {
+    let (to, body) = (Address::EVERYONE, request(RequestFlag::Register));
+    let stamp = Count(0);
+    let asks = |from| Message {
+        to,
+        from,
+        stamp,
+        body,
+    };
+    assert_eq!(write(&asks(GROUP)), Err(Refusal::OutOfRange));
+    let mut frame = write(&asks(BOX)).unwrap();
+    frame[6] = 3;
+    assert_eq!(read(&frame), Err(Refusal::OutOfRange));
+}
+
+/// A held link has an individual address, so 8 comes before 4.
+#[test]
+fn a_link_hears_no_group() {
+    let mut desk = Desk::registered(1);
+    for from in [Address::ZERO, GROUP] {
+        let answer = desk.hear(1, from, Body::Report);
+        assert_eq!(answer, Err(Refusal::NotMine), "{from}");
+    }
 }
 
 #[test]

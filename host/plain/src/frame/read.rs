@@ -15,9 +15,11 @@ pub fn read(octets: &[u8]) -> Result<Message, Refusal> {
         REGISTER_ACK => read_register_ack(frame)?,
         _ => return Err(Refusal::UnknownOpcode),
     };
+    let from = address_at(frame, 6);
+    require(from.is_individual(), Refusal::OutOfRange)?;
     Ok(Message {
         to: address_at(frame, 0),
-        from: address_at(frame, 6),
+        from,
         stamp: count_at(frame, 16),
         body,
     })

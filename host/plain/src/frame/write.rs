@@ -3,7 +3,7 @@
 use super::*;
 use crate::refusal::{require, Refusal};
 
-/// Writes a message, or refuses one that doesn't fit the wire (4).
+/// Writes a message, or refuses one that is out of range (4).
 pub fn write(message: &Message) -> Result<Frame, Refusal> {
     require(message.in_range(), Refusal::OutOfRange)?;
     Ok(octets(message))
