@@ -57,6 +57,62 @@ fn read_tells_each_body() {
     assert!(read.contains(" stamp 5 gate 1 7 74 1 frame "), "{read}");
 }
 
+/// A REPORT to everyone with this source.
+fn report_from(source: &str) -> String {
+    frame(&format!("0180c2000001{source}880800036c6d6e6f"))
+}
+
+#[test]
+fn a_frame_of_a_group_or_nobody_is_not_read() {
+    for source in ["021346578a9b", "000000000001", "fe0000000000"] {
+        let report = report_from(source);
+        let told = answers(format!("read {report}\n").as_bytes());
+        let read = format!("read 0 to 0180c2000001 from {source} stamp 1819111023 report");
+        assert_eq!(told, format!("{read} frame {report}\n"));
+    }
+    for source in [
+        "031346578a9b",
+        "000000000000",
+        "010000000000",
+        "ffffffffffff",
+        "0180c2000001",
+    ] {
+        let told = answers(format!("read {}\n", report_from(source)).as_bytes());
+        assert_eq!(told, "read 4\n", "{source}");
+    }
+    let group = report_from("031346578a9b");
+    let opcode = group.replace("88080003", "88080007");
+    let kind = group.replace("88080003", "88090003");
+    let script = format!("read {opcode}\nread {kind}\nread {}\n", &group[..118]);
+    assert_eq!(answers(script.as_bytes()), "read 3\nread 2\nread 1\n");
+}
+
+#[test]
+fn a_head_and_a_box_hear_no_group_and_nobody() {
+    let request = |source| frame(&format!("0180c2000001{source}88080004000000050110"));
+    let told = |before: &str, state: &str, source| {
+        let before = format!("head new 1 0a1b2c3d4e5f\n{before}");
+        let told = told_after(&before, &format!("head hear 0 {}\n", request(source)));
+        let stays = format!("  head 0a1b2c3d4e5f {state} links 1 idle 000000000000 0 0 0\n");
+        assert_eq!(told, format!("head 4\n{stays}"));
+    };
+    let inside = "head state 0a1b2c3d4e5f 7 inside 9 0\n";
+    told(inside, "count 7 window inside 9 0", "000000000000");
+    told(inside, "count 7 window inside 9 0", "031346578a9b");
+    // The reader comes before the window.
+    told("", "count 0 window idle 0 0", "031346578a9b");
+
+    let gate = frame("021346578a9b031346578a9b880800020000000900");
+    let before = "box state 021346578a9b 7 registered 0 100 200 1 10\nbox list 1 500 100\n";
+    let stays = "  box 021346578a9b count 7 registered 0 100 200 port 1 sync 10 light rest 0 \
+        grants 1 500 100\n";
+    let told = told_after(before, &format!("box hear 0 {gate}\n"));
+    assert_eq!(told, format!("box 4 drift 0\n{stays}"));
+    // And before soundness: this box has no address.
+    let told = answers(format!("box hear 0 {gate}\n").as_bytes());
+    assert!(told.starts_with("box 4 drift 0\n"), "{told}");
+}
+
 #[test]
 fn a_fresh_head_and_its_window() {
     let script = b"head new 1 020000000001\nhead open 2 174 0 3\nhead tick 3\nhead tick 0\n";
