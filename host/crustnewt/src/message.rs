@@ -146,15 +146,16 @@ impl Message {
         }
     }
 
-    /// Reads a frame into it: any octets, of any number. Refused, it is an
-    /// empty REPORT with every field 0.
+    /// Reads a frame into it: any octets, of any number. Refused, it is the
+    /// [default](Message::default), which has no frame.
     #[inline]
     pub fn read(&mut self, octets: &[u8]) -> Result<(), Refusal> {
         Refusal::judge(sys::read(octets, &mut self.words))
     }
 
     /// Writes it into a frame; [`Refusal::Range`], and a frame of zeros, where a
-    /// field is outside its range.
+    /// field is outside its range. So is a source that is zero, a group's or
+    /// above 48 bits, while a destination may be any 48.
     #[inline]
     pub fn write(&self, frame: &mut Frame) -> Result<(), Refusal> {
         Refusal::judge(sys::write(&self.words, frame))
@@ -166,7 +167,7 @@ impl Message {
         self.words[0]
     }
 
-    /// Source.
+    /// Source: of a message that was read, individual and not zero.
     #[inline]
     pub fn from(&self) -> u64 {
         self.words[1]
@@ -192,7 +193,8 @@ impl Message {
 }
 
 impl Default for Message {
-    /// An empty REPORT with every field 0.
+    /// An empty REPORT with every field 0: to be read into, not to be written,
+    /// as its source is nobody's.
     #[inline]
     fn default() -> Message {
         Message::new(0, 0, 0, &Body::Report)

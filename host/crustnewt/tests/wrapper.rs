@@ -9,6 +9,8 @@ use crustnewt::{
 const HEAD: u64 = 0x0200_0000_0001;
 const BOX: u64 = 0x0200_0000_0031;
 const EVERYONE: u64 = 0x0180_C200_0001;
+/// A group's: the box's with the lowest bit of its first octet set.
+const GROUP: u64 = 0x0300_0000_0031;
 
 fn head<const LINKS: usize>() -> Head<ArrayTable<LINKS>> {
     Head::fresh(HEAD, ArrayTable::new()).unwrap()
@@ -300,4 +302,59 @@ fn what_is_refused_is_empty() {
     assert_eq!(message.write(&mut frame), Err(Refusal::Range));
     assert_eq!(message.read(&frame), Err(Refusal::Kind));
     assert_eq!((frame, message), ([0; 60], Message::default()));
+}
+
+/// Its octets with another source.
+fn from(source: u64, frame: &Frame) -> Frame {
+    let mut frame = *frame;
+    frame[6..12].copy_from_slice(&source.to_be_bytes()[2..]);
+    frame
+}
+
+#[test]
+fn a_source_is_individual_and_not_zero() {
+    let frame_of = |to, from| {
+        let mut frame = [0xEE; 60];
+        let written = Message::new(to, from, 5, &Body::Report).write(&mut frame);
+        written.map(|()| frame)
+    };
+    for source in [1, BOX, 0xFE00_0000_0000] {
+        let frame = frame_of(EVERYONE, source).unwrap();
+        let mut message = Message::default();
+        message.read(&frame).unwrap();
+        assert_eq!(message.from(), source);
+    }
+    let report = frame_of(EVERYONE, BOX).unwrap();
+    for source in [0, GROUP, EVERYONE, 1 << 40, (1 << 48) - 1] {
+        assert_eq!(frame_of(EVERYONE, source), Err(Refusal::Range));
+        let mut message = Message::new(EVERYONE, BOX, 5, &Body::Report);
+        let read = message.read(&from(source, &report));
+        assert_eq!(read, Err(Refusal::Range), "{source:#x}");
+        assert_eq!(message, Message::default());
+    }
+    assert_eq!(frame_of(EVERYONE, BOX | 1 << 48), Err(Refusal::Range));
+    for destination in [0, GROUP, (1 << 48) - 1] {
+        assert!(frame_of(destination, BOX).is_ok());
+    }
+    assert_eq!(Message::default().write(&mut [0; 60]), Err(Refusal::Range));
+}
+
+#[test]
+fn a_frame_of_a_group_or_nobody_is_not_heard() {
+    let mut head = head::<1>();
+    let (mut floor_box, request) = asked(&mut head);
+    for source in [0, GROUP] {
+        let heard = head.hear(0, &from(source, &request));
+        assert_eq!(heard, Err(Refusal::Range));
+    }
+    head.hear(0, &request).unwrap();
+    let register = head.admit(BOX, 16, 10).unwrap().frames()[0];
+    let before = floor_box.clone();
+    for source in [0, GROUP] {
+        let heard = floor_box.hear(&from(source, &register), 0);
+        assert_eq!(heard, Err(Refusal::Range));
+    }
+    assert_eq!(floor_box, before);
+    floor_box.hear(&register, 0).unwrap();
+    assert_eq!(floor_box.state(), BoxState::Registered);
 }
