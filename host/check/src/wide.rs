@@ -143,7 +143,11 @@ fn wide_grant(dice: &mut Dice) -> Grant {
 
 fn wide_message(dice: &mut Dice) -> Message {
     let mut message = any_message(dice);
-    message.from = wide_address(dice);
+    match dice.below(6) {
+        0 => message.to = wide_address(dice),
+        1 => message.from = wide_address(dice),
+        _ => {}
+    }
     match &mut message.body {
         Body::Gate(gate) => {
             let mut grants: Vec<_> = gate.iter().collect();

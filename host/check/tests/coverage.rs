@@ -1,9 +1,14 @@
-//! The cases reach every reply number, notice and phase.
+//! The cases reach every reply number, notice and phase, and every kind of
+//! source.
 
-use check::script;
-use crustnewt_core::PlainCore;
-use crustnewt_tool::replay::replay;
+use check::{compare_wide, script};
+use crustnewt_core::{BoxCore, Core, HeadCore, PlainCore};
+use crustnewt_tool::replay::{parse, replay, Call, Script, Stage};
+use plain::{Address, Frame, Message};
+use std::cell::RefCell;
 use std::collections::HashSet;
+
+const BOX: Address = Address(0x0200_0000_0031);
 
 /// Every pair of neighbouring words that the first so many cases answer.
 fn pairs(cases: u64) -> HashSet<(String, String)> {
@@ -48,4 +53,143 @@ fn cases_reach_every_answer() {
             assert!(pairs.contains(&pair), "no case answers `{first} {second}`");
         }
     }
+}
+
+/// What was called with which kind of source, what it answered, and what it
+/// would have answered the box.
+type Met = HashSet<String>;
+
+fn meet(met: &mut Met, call: &str, source: Address, numbers: [u8; 2]) {
+    let kind = match source.0 {
+        0 => "zero",
+        0xFFFF_FFFF_FFFF => "all ones",
+        wide if wide >> 48 != 0 => "above 48 bits",
+        group if group >> 40 & 1 == 1 => "a group",
+        _ => "a party",
+    };
+    let [number, else_number] = numbers;
+    met.insert(format!("{call} from {kind}: {number}, else {else_number}"));
+}
+
+/// The source of sixty octets; `None` of others.
+fn source(frame: &[u8]) -> Option<Address> {
+    let frame: &Frame = frame.try_into().ok()?;
+    let octets = frame[6..12].iter();
+    Some(Address(
+        octets.fold(0, |sum, &octet| sum << 8 | u64::from(octet)),
+    ))
+}
+
+/// Its octets from another source.
+fn from(source: Address, frame: &[u8]) -> Vec<u8> {
+    let source = &source.0.to_be_bytes()[2..];
+    [&frame[..6], source, &frame[12..]].concat()
+}
+
+/// A head that holds what another does.
+fn copy(head: &dyn HeadCore) -> Box<dyn HeadCore> {
+    let mut copy = PlainCore.head();
+    copy.lend_links(head.links());
+    copy.lend_output(head.output().to_vec());
+    copy.set_state(&head.state());
+    for place in 0..head.links() {
+        copy.set_link(place, &head.link(place));
+    }
+    copy
+}
+
+/// Meets what is read or heard on this stage.
+fn meet_call(met: &mut Met, stage: &Stage<'_>, call: &Call) {
+    let (Call::Read(frame) | Call::BoxHear { frame, .. } | Call::HeadHear { frame, .. }) = call
+    else {
+        return;
+    };
+    let Some(source) = source(frame) else {
+        return;
+    };
+    let frames = [frame.clone(), from(BOX, frame)];
+    match *call {
+        Call::BoxHear { random, .. } => {
+            let floor_box = stage.floor_box.state();
+            let hear = |frame: Vec<u8>| BoxCore::hear(&mut { floor_box }, &frame, random).number;
+            meet(met, "box hear", source, frames.map(hear));
+        }
+        Call::HeadHear { link, .. } => {
+            let hear = |frame: Vec<u8>| copy(&*stage.head).hear(link, &frame).number;
+            meet(met, "head hear", source, frames.map(hear));
+        }
+        _ => {
+            let read = |frame: Vec<u8>| PlainCore.read(&frame).err().unwrap_or(0);
+            meet(met, "read", source, frames.map(read));
+        }
+    }
+}
+
+/// The plain core, which keeps what it is asked to write.
+struct Writer(RefCell<Vec<Message>>);
+
+impl Core for Writer {
+    fn read(&self, frame: &[u8]) -> Result<Message, u8> {
+        PlainCore.read(frame)
+    }
+    fn write(&self, message: &Message) -> (u8, Frame) {
+        self.0.borrow_mut().push(*message);
+        PlainCore.write(message)
+    }
+    fn head(&self) -> Box<dyn HeadCore> {
+        PlainCore.head()
+    }
+    fn floor_box(&self) -> Box<dyn BoxCore> {
+        PlainCore.floor_box()
+    }
+}
+
+/// The sources of the first so many cases.
+fn sources(cases: u64) -> Met {
+    let (mut met, writer) = (Met::new(), Writer(RefCell::default()));
+    for seed in 0..cases {
+        let mut stage = Stage::new(&PlainCore);
+        for line in script(seed) {
+            let Script::Call(call) = parse(line.as_bytes()) else {
+                panic!("not of the language: {line}");
+            };
+            meet_call(&mut met, &stage, &call);
+            stage.play(&call, &mut Vec::new()).unwrap();
+        }
+        assert_eq!(compare_wide(&writer, &PlainCore, seed), None);
+    }
+    for message in writer.0.into_inner() {
+        let messages = [
+            message,
+            Message {
+                from: BOX,
+                ..message
+            },
+        ];
+        let numbers = messages.map(|message| PlainCore.write(&message).0);
+        meet(&mut met, "write", message.from, numbers);
+    }
+    met
+}
+
+#[test]
+fn cases_reach_every_kind_of_source() {
+    let mut expected: Vec<String> = [
+        "write from above 48 bits: 4, else 0",
+        "write from a group: 4, else 4",
+        "box hear from a group: 4, else 13",
+        "head hear from zero: 4, else 7",
+        "head hear from a group: 4, else 7",
+    ]
+    .map(str::to_owned)
+    .into();
+    for call in ["read", "write", "box hear", "head hear"] {
+        expected.push(format!("{call} from a party: 0, else 0"));
+        for source in ["zero", "a group", "all ones"] {
+            expected.push(format!("{call} from {source}: 4, else 0"));
+        }
+    }
+    let met = sources(1600);
+    expected.retain(|expected| !met.contains(expected));
+    assert!(expected.is_empty(), "no case has: {expected:?}");
 }

@@ -1,12 +1,13 @@
 //! Cases that don't rest on chance: every state with every message, every
-//! timer at its ends, every length of output.
+//! timer at its ends, every kind of address, every length of output.
 
 mod advances;
 
+use super::messages::octets;
 use super::states::{box_lines, head_line, link_line};
-use super::values::{BOX, HEAD};
+use super::values::{BOX, GROUP, HEAD, ONES};
 use crustnewt_tool::replay::hex;
-use plain::frame::{write, AckFlag, RegisterFlag, RequestFlag};
+use plain::frame::{AckFlag, RegisterFlag, RequestFlag};
 use plain::{
     Address, Body, BoxState, Count, FloorBox, Gate, Grant, GrantList, Granted, Head, Light, Link,
     LinkState, Message, Window,
@@ -23,6 +24,7 @@ pub(crate) fn cases() -> Vec<(&'static str, Vec<String>)> {
         ("transmitter bounds", light_bounds()),
         ("head states and messages", head_messages()),
         ("head timers", head_timers()),
+        ("sources and destinations", addresses()),
         ("lent outputs", outputs()),
         ("lent tables", tables()),
         ("advances of the box", advances::of_boxes()),
@@ -80,7 +82,7 @@ fn digits(to: Address, from: Address, body: Body) -> String {
         stamp,
         body,
     };
-    hex(&write(&message).unwrap_or([0; 60])).to_string()
+    hex(&octets(&message)).to_string()
 }
 
 fn box_in(state: BoxState, light: Light) -> FloorBox {
@@ -313,6 +315,67 @@ fn head_timers() -> Vec<String> {
                 ));
                 script.push("head tick 3".to_owned());
             }
+        }
+    }
+    script
+}
+
+/// Addresses that are a party's, and ones that aren't.
+const ADDRESSES: [Address; 8] = [
+    BOX,
+    Address::ZERO,
+    Address(BOX.0 | GROUP),
+    Address::EVERYONE,
+    ONES,
+    Address(GROUP),
+    Address(1),
+    Address(0xFE00_0000_0000),
+];
+
+/// Every kind of message from every such source and to every such destination,
+/// read and heard; and sources in frames that aren't read for another reason.
+fn addresses() -> Vec<String> {
+    let mut script = vec![format!("head new 1 {HEAD}")];
+    for address in ADDRESSES {
+        for body in bodies() {
+            let to = digits(address, HEAD, body);
+            script.push(format!("read {to}"));
+            for frame in [to, digits(BOX, address, body)] {
+                script.extend(heard_by_boxes(&frame));
+            }
+            let from = digits(HEAD, address, body);
+            script.push(format!("read {from}"));
+            script.extend(heard_by_heads(&from));
+        }
+        let report = digits(BOX, address, Body::Report);
+        script.push(format!("read {}", &report[..118]));
+        for other in ["88090003", "88080007"] {
+            script.push(format!("read {}", report.replace("88080003", other)));
+        }
+    }
+    script
+}
+
+/// By one that is registered, and by one that isn't sound.
+fn heard_by_boxes(frame: &str) -> Vec<String> {
+    let registered = box_in(BoxState::Registered, Light::Rest);
+    let unsound = box_in(BoxState::Wait, Light::Open { left: 1 });
+    let hear = |floor_box| {
+        let mut lines = box_lines(&floor_box);
+        lines.push(format!("box hear 11 {frame}"));
+        lines
+    };
+    [registered, unsound].into_iter().flat_map(hear).collect()
+}
+
+/// Inside a window and outside, on link 0 and on one that is held.
+fn heard_by_heads(frame: &str) -> Vec<String> {
+    let mut script = Vec::new();
+    for window in windows(9) {
+        for link in [0, 1] {
+            script.push(head_with(window));
+            script.push(link_line(1, &link_in(LinkState::Registered)));
+            script.push(format!("head hear {link} {frame}"));
         }
     }
     script

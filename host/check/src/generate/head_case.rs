@@ -132,10 +132,11 @@ fn hear(dice: &mut Dice, now: Count, table: &[Link]) -> String {
     let place = usize::try_from(link)
         .ok()
         .and_then(|link| link.checked_sub(1));
-    let held = place.and_then(|place| table.get(place));
+    let named = place.and_then(|place| table.get(place));
+    let held = named.filter(|link| link.is_held());
     let from = held.map_or(BOX, |link| link.address);
     let frame = if dice.chance(700) {
-        let body = fitting(dice, held.map(|link| link.state));
+        let body = fitting(dice, named.map(|link| link.state));
         frame_of(dice, For::Head, now, from, body)
     } else {
         frame_for(dice, For::Head, now, from)

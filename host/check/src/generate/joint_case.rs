@@ -1,4 +1,5 @@
-//! Head and box together, over a fibre with delay and loss.
+//! Head and box together, over a fibre with delay and loss, on which a few
+//! frames come to have another source.
 //!
 //! What they say depends on what they hear, so the script is written while
 //! the plain core plays it; the comparison then plays it again.
@@ -6,7 +7,7 @@
 use super::box_case::{self, next, ticks};
 use super::head_case::{self, gate, open};
 use super::states::{box_lines, head_line, link_line};
-use super::values::{count, near, running, BOX, HEAD};
+use super::values::{count, near, other_source, running, BOX, HEAD};
 use crustnewt_core::PlainCore;
 use crustnewt_tool::dice::Dice;
 use crustnewt_tool::replay::{parse, Script, Stage};
@@ -221,8 +222,15 @@ impl Joint<'_> {
             return;
         }
         let arrives = self.now + at + self.delay;
-        let digits = digits.to_owned();
-        let queue = if to_box { &mut self.down } else { &mut self.up };
+        let (own, queue) = match to_box {
+            true => (HEAD, &mut self.down),
+            false => (BOX, &mut self.up),
+        };
+        let mut digits = digits.to_owned();
+        if self.dice.chance(20) {
+            let source = other_source(self.dice, own).to_string();
+            digits.replace_range(12..24, &source);
+        }
         queue.push_back(Sent { arrives, digits });
     }
 }

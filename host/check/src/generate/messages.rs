@@ -1,9 +1,9 @@
 //! Messages of every kind, and frames whole and damaged.
 
-use super::values::{address, count, near, quanta, sync, BOX, HEAD};
+use super::values::{address, count, near, other_source, quanta, sync, BOX, HEAD};
 use crustnewt_tool::dice::Dice;
 use plain::frame::{write, AckFlag, RegisterFlag, RequestFlag};
-use plain::{Address, Body, Count, Gate, Grant, Granted, LinkState, Message};
+use plain::{Address, Body, Count, Frame, Gate, Grant, Granted, LinkState, Message};
 
 /// The party that a message is meant for.
 #[derive(Clone, Copy, PartialEq, Eq)]
@@ -41,10 +41,10 @@ pub(crate) fn frame_of(
         },
         body,
     };
-    if dice.chance(50) {
-        message.from = address(dice);
+    if dice.chance(100) {
+        message.from = other_source(dice, from);
     }
-    let frame = octets(&message);
+    let frame = octets(&message).to_vec();
     match dice.below(100) {
         0..=5 => damaged(dice, frame),
         6..=9 => with_pad(dice, frame),
@@ -54,7 +54,7 @@ pub(crate) fn frame_of(
 
 /// A frame of any kind, whole or damaged.
 pub(crate) fn any_frame(dice: &mut Dice) -> Vec<u8> {
-    let frame = octets(&any_message(dice));
+    let frame = octets(&any_message(dice)).to_vec();
     match dice.below(3) {
         0 => frame,
         1 => with_pad(dice, frame),
@@ -62,12 +62,18 @@ pub(crate) fn any_frame(dice: &mut Dice) -> Vec<u8> {
     }
 }
 
-/// A message of any kind, in range.
+/// A message of any kind, in range but for the source of some.
 pub(crate) fn any_message(dice: &mut Dice) -> Message {
     let now = count(dice);
+    let usual = Some(address(dice)).filter(|party| party.is_individual());
+    let usual = usual.unwrap_or(BOX);
     Message {
         to: address(dice),
-        from: address(dice),
+        from: if dice.chance(150) {
+            other_source(dice, usual)
+        } else {
+            usual
+        },
         stamp: near(dice, now),
         body: any_body(dice, now),
     }
@@ -98,9 +104,14 @@ pub(crate) fn fitting(dice: &mut Dice, link: Option<LinkState>) -> Body {
     }
 }
 
-/// Frames here are always in range, so the writer doesn't refuse them.
-fn octets(message: &Message) -> Vec<u8> {
-    write(message).map_or_else(|_| Vec::new(), |frame| frame.to_vec())
+/// The frame of a message that is in range but for its source, which the
+/// writer would refuse: it is put in behind its back.
+pub(crate) fn octets(message: &Message) -> Frame {
+    let from = HEAD;
+    let written = write(&Message { from, ..*message });
+    let mut frame = written.expect("all but its source is in range");
+    frame[6..12].copy_from_slice(&message.from.0.to_be_bytes()[2..]);
+    frame
 }
 
 fn any_body(dice: &mut Dice, now: Count) -> Body {

@@ -7,6 +7,10 @@ use plain::{Address, Count};
 pub(crate) const HEAD: Address = Address(0x0200_0000_0001);
 /// The box of most cases.
 pub(crate) const BOX: Address = Address(0x0200_0000_0031);
+/// The bit that marks a group.
+pub(crate) const GROUP: u64 = 1 << 40;
+/// Every bit set: a group's.
+pub(crate) const ONES: Address = Address(0xFFFF_FFFF_FFFF);
 
 /// A number at or near the ends of 0 .. `longest`, or anywhere.
 pub(crate) fn edgy(dice: &mut Dice, longest: u32) -> u32 {
@@ -106,6 +110,19 @@ pub(crate) fn address(dice: &mut Dice) -> Address {
         8 => Address::EVERYONE,
         9 => Address::ZERO,
         10 => Address(dice.word() >> 16),
-        _ => dice.pick(&[Address(0xFFFF_FFFF_FFFF), Address(0x0100_0000_0000)]),
+        _ => dice.pick(&[ONES, Address(GROUP)]),
+    }
+}
+
+/// A source beside the usual one: another party's, or one that no frame may
+/// have (R237).
+pub(crate) fn other_source(dice: &mut Dice, usual: Address) -> Address {
+    match dice.below(6) {
+        0 => Address::ZERO,
+        1 => Address(usual.0 | GROUP),
+        2 => ONES,
+        // Of all bits by themselves one is judged.
+        3 => Address(1 << dice.below(48)),
+        _ => address(dice),
     }
 }
