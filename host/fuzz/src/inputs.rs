@@ -1,5 +1,6 @@
 //! Octets and words to hand in.
 
+use crate::judge::SOURCE;
 use crustnewt::sys::{BOX_WORDS, FRAME_OCTETS};
 use crustnewt::{AckFlag, Body, Grant, Granted, Message, RegisterFlag, RequestFlag, UpTo};
 use crustnewt_tool::dice::Dice;
@@ -125,13 +126,24 @@ pub fn frame(dice: &mut Dice, kept: &[Vec<u8>]) -> Vec<u8> {
     octets
 }
 
+/// A source: mostly a party's, else any address, also such as no frame is from.
+pub fn source(dice: &mut Dice) -> u64 {
+    let box_near = BOX + dice.below(70);
+    match dice.chance(800) {
+        true => dice.pick(&[HEAD, BOX, BOX, box_near]),
+        false => address(dice),
+    }
+}
+
 fn made_up(dice: &mut Dice) -> Vec<u8> {
     let body = body(dice);
-    let (to, from) = (address(dice) % (1 << 48), address(dice) % (1 << 48));
+    let (to, from) = (address(dice) % (1 << 48), source(dice));
     let stamp = dice.below(2000) as u32;
     let mut frame = [0; FRAME_OCTETS];
     // Refused, it is zeros, which are no frame.
-    let _ = Message::new(to, from, stamp, &body).write(&mut frame);
+    let _ = Message::new(to, HEAD, stamp, &body).write(&mut frame);
+    // The writer would refuse a source that is to be refused by the reader.
+    frame[SOURCE].copy_from_slice(&from.to_be_bytes()[2..]);
     frame.to_vec()
 }
 

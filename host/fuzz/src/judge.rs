@@ -7,7 +7,7 @@ mod on_box;
 mod on_head;
 mod states;
 
-pub use frames::{judge_read, judge_write};
+pub use frames::{judge_read, judge_write, SOURCE};
 pub use on_box::{judge_box, judge_box_until, judge_next, BoxLent};
 pub use on_head::{judge_head, judge_head_until, HeadLent};
 

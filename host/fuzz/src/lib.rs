@@ -4,8 +4,8 @@
 //! is held against what `include/crustnewt.h` promises of every call: the
 //! number is the card's, too little lent is 100 and touches nothing, a refusal
 //! changes nothing, what lies behind the part that is used stays, and nothing
-//! rests on it; an advance says what it made. What a call should answer beyond
-//! that is for `check` to say.
+//! rests on it; an advance says what it made; no message and no frame is from a
+//! group or nobody. What a call should answer beyond that is for `check` to say.
 
 mod call;
 mod guarded;

@@ -2,7 +2,7 @@
 //! their words spoiled now and then.
 
 use crate::call::{BoxCall, Face, HeadCall};
-use crate::inputs::{address, any_box, frame, relight, spoil, ticks, within, BOX, HEAD};
+use crate::inputs::{address, any_box, frame, relight, source, spoil, ticks, within, BOX, HEAD};
 use crate::judge::{
     judge_box, judge_box_until, judge_head, judge_head_until, judge_next, judge_read, judge_write,
     BoxLent, HeadLent, Left,
@@ -95,6 +95,9 @@ impl<'a> World<'a> {
             // Small words where a body has them: numbers, bits, flags.
             let place = 4 + self.dice.below(6) as usize;
             message[place] ^= 1 << self.dice.below(5);
+        }
+        if self.dice.chance(100) {
+            message[1] = source(&mut self.dice);
         }
         let (words, octets) = (self.length(MESSAGE_WORDS), self.length(FRAME_OCTETS));
         told(judge_write(self.face, &message, words, octets), || {

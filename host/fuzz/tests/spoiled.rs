@@ -66,6 +66,45 @@ enum Flaw {
     UntilMore,
     /// An unsound head is said to be silent.
     UntilUnsound,
+    /// A group's source is read.
+    ReadsGroup,
+    /// A source of zero is read.
+    ReadsZero,
+    /// A group's destination is refused.
+    JudgesDestination,
+    /// A group's source is written.
+    WritesGroup,
+    /// A source of zero is written, and so are the blank words.
+    WritesZero,
+    /// A box hears a group.
+    HearsGroup,
+    /// A head hears nobody.
+    HearsZero,
+    /// A box hands out a frame that is from a group.
+    SendsGroup,
+    /// A head hands out a frame that is from nobody.
+    SendsZero,
+}
+
+/// The octets, from a party where they were from a group.
+fn ungrouped(octets: &[u8]) -> Vec<u8> {
+    let mut octets = octets.to_vec();
+    octets
+        .iter_mut()
+        .skip(6)
+        .take(1)
+        .for_each(|first| *first &= !1);
+    octets
+}
+
+/// The octets, from a party where they were from nobody.
+fn unzeroed(octets: &[u8]) -> Vec<u8> {
+    let mut octets = octets.to_vec();
+    match octets.get_mut(6..12) {
+        Some(source) if *source == [0; 6] => source[0] = 2,
+        _ => {}
+    }
+    octets
 }
 
 struct Spoiled {
@@ -78,11 +117,24 @@ impl Spoiled {
         self.flaw == flaw
     }
 
-    /// How far a box advances, spoiled before it does.
-    fn spoil_ticks(&self, call: &BoxCall) -> BoxCall {
-        match (self.flaw, call.ticks()) {
-            (Flaw::TakesMore, Some(65_537..)) => BoxCall::Advance(65_536),
-            (Flaw::StopsEarly, Some(ticks @ 2..65_537)) => BoxCall::Advance(ticks / 2),
+    /// What a box is asked for, spoiled before it does it.
+    fn spoil_box_call(&self, call: &BoxCall) -> BoxCall {
+        match (self.flaw, call) {
+            (Flaw::TakesMore, BoxCall::Advance(65_537..)) => BoxCall::Advance(65_536),
+            (Flaw::StopsEarly, BoxCall::Advance(ticks @ 2..65_537)) => BoxCall::Advance(ticks / 2),
+            (Flaw::HearsGroup, BoxCall::Hear(octets, random)) => {
+                BoxCall::Hear(ungrouped(octets), *random)
+            }
+            _ => call.clone(),
+        }
+    }
+
+    /// What a head is asked for, spoiled before it does it.
+    fn spoil_head_call(&self, call: &HeadCall) -> HeadCall {
+        match (self.flaw, call) {
+            (Flaw::HearsZero, HeadCall::Hear(link, octets)) => {
+                HeadCall::Hear(*link, unzeroed(octets))
+            }
             _ => call.clone(),
         }
     }
@@ -111,7 +163,7 @@ impl Face for Spoiled {
             reply,
         } = &mut memory;
         let number = Library.on_box(
-            &self.spoil_ticks(call),
+            &self.spoil_box_call(call),
             BoxMemory {
                 block,
                 frames,
@@ -131,6 +183,7 @@ impl Face for Spoiled {
             (Flaw::LeavesUnsound, 0) if *call == BoxCall::Register => memory.block[3] = 1,
             (Flaw::Moody, 0) => memory.block[1] ^= self.calls.get() & 1,
             (Flaw::RefusedAdvances, 9) => memory.block[1] ^= 1,
+            (Flaw::SendsGroup, 0) if memory.reply[1] > 0 => memory.frames[6] |= 1,
             _ => {}
         }
         number
@@ -145,7 +198,7 @@ impl Face for Spoiled {
             reply,
         } = &mut memory;
         let number = Library.on_head(
-            call,
+            &self.spoil_head_call(call),
             HeadMemory {
                 head,
                 links,
@@ -169,6 +222,7 @@ impl Face for Spoiled {
         }
         match (self.flaw, number) {
             (Flaw::RefusalTells, 6) => memory.reply[0] = 1,
+            (Flaw::SendsZero, 0) if memory.reply[0] > 0 => memory.output[6..12].fill(0),
             (Flaw::StrayNotice, 0) if memory.reply[1] == 0 => memory.reply[2] = 0,
             (Flaw::RefusesSound, 6) if memory.links.len() > 5 && memory.links[6] > 0 => return 13,
             (Flaw::TakesNobodys, 13) if memory.head[2] == 0 && *call != HeadCall::Tick => return 6,
@@ -203,13 +257,30 @@ impl Face for Spoiled {
             Some(word) if self.is(Flaw::ReadsOn) => *word = 0,
             _ => {}
         }
-        Library.read(octets, message)
+        let taken = match self.flaw {
+            Flaw::ReadsGroup => ungrouped(octets),
+            Flaw::ReadsZero => unzeroed(octets),
+            _ => octets.to_vec(),
+        };
+        match Library.read(&taken, message) {
+            0 if self.is(Flaw::JudgesDestination) && octets[0] & 1 == 1 => {
+                // Its words are blank, as a refused frame's are.
+                Library.read(&[], message);
+                4
+            }
+            number => number,
+        }
     }
 
     fn write(&self, message: &[u64], octets: &mut [u8]) -> u8 {
         let mut message = message.to_vec();
         match message.get_mut(MESSAGE_WORDS - 1) {
             Some(word) if self.is(Flaw::WritesStray) => *word = 0,
+            _ => {}
+        }
+        match (self.flaw, message.get_mut(1)) {
+            (Flaw::WritesGroup, Some(source)) => *source &= !(1 << 40),
+            (Flaw::WritesZero, Some(source @ 0)) => *source = 2,
             _ => {}
         }
         let number = Library.write(&message, octets);
@@ -259,6 +330,15 @@ fn each_flaw_is_found() {
         Flaw::StopsEarly,
         Flaw::UntilMore,
         Flaw::UntilUnsound,
+        Flaw::ReadsGroup,
+        Flaw::ReadsZero,
+        Flaw::JudgesDestination,
+        Flaw::WritesGroup,
+        Flaw::WritesZero,
+        Flaw::HearsGroup,
+        Flaw::HearsZero,
+        Flaw::SendsGroup,
+        Flaw::SendsZero,
     ] {
         let face = spoiled(flaw);
         let found = (0..200).any(|seed| fuzz(&face, seed, &mut [0; 256]).is_err());

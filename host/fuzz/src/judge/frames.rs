@@ -1,10 +1,14 @@
-//! Reader and writer.
+//! Reader and writer, and the source of every frame.
 
-use super::messages::message_of;
+use super::messages::{is_source, message_of};
 use super::{both, require, require_number, word, Left, DONE, RANGE, SHORT};
 use crate::call::Face;
 use crate::guarded::Guarded;
 use crustnewt::sys::{FRAME_OCTETS, MESSAGE_WORDS};
+use std::ops::Range;
+
+/// Where a frame has its source.
+pub const SOURCE: Range<usize> = 6..12;
 
 /// The words of an empty REPORT with every field 0: its kind stands fourth.
 const BLANK: [u64; MESSAGE_WORDS] = {
@@ -42,14 +46,32 @@ pub fn judge_read(face: &dyn Face, octets: &[u8], words: usize) -> Result<Left, 
         Ok(message) => {
             let read = left.number == DONE && message_of(&left.block) == Some(message);
             require(read, "a frame is read otherwise")?;
+            let source = is_source(message.from.0);
+            require(source, "a message is from a group or nobody")?;
             require_written(face, &left.block, octets)?;
         }
         Err(refusal) => {
             let refused = left.number == refusal.number();
             require(refused, "a frame is refused otherwise")?;
+            require_unwritten(face)?;
         }
     }
     Ok(left)
+}
+
+/// The blank words have no frame.
+fn require_unwritten(face: &dyn Face) -> Result<(), String> {
+    let number = face.write(&BLANK, &mut [0; FRAME_OCTETS]);
+    require(number == RANGE, "the blank words are written")
+}
+
+/// Each frame that is handed out or written is from someone.
+pub fn require_sources(octets: &[u8]) -> Result<(), String> {
+    let number = |sum, octet: &u8| sum << 8 | u64::from(*octet);
+    let source = |frame: &[u8]| frame[SOURCE].iter().fold(0, number);
+    let mut frames = octets.chunks_exact(FRAME_OCTETS);
+    let right = frames.all(|frame| is_source(source(frame)));
+    require(right, "a frame is from a group or nobody")
 }
 
 /// What was read is written and read again as it was; what is written is the
@@ -100,6 +122,7 @@ pub fn judge_write(
         Some(frame) => {
             let written = left.number == DONE && left.frames == frame;
             require(written, "a message is written otherwise")?;
+            require_sources(&frame)?;
         }
         None => require(left.number == RANGE, "words of no message are written")?,
     }

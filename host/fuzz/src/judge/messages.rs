@@ -5,6 +5,12 @@ use crustnewt::sys::MESSAGE_WORDS;
 use plain::frame::{AckFlag, RegisterFlag, RequestFlag};
 use plain::{Address, Body, Count, Gate, Granted, Message};
 
+/// Whether a source is in range: not zero, no group's, and of 48 bits.
+pub fn is_source(address: u64) -> bool {
+    let group = address >> 40 & 1 == 1;
+    address != 0 && !group && address >> 48 == 0
+}
+
 /// Words of a body.
 const BODY: usize = MESSAGE_WORDS - 4;
 

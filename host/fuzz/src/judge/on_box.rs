@@ -1,6 +1,7 @@
 //! Calls of the box.
 
 use super::advances::{self, require_answer, require_counted, require_made};
+use super::frames::require_sources;
 use super::states::{is_sound_box, told, Told};
 use super::{
     both, require, require_judged, require_number, word, Left, DONE, RANGE, SHORT, UNSOUND, WINDOW,
@@ -70,6 +71,7 @@ pub fn judge_box(face: &dyn Face, call: &BoxCall, lent: &BoxLent) -> Result<Left
     let left = both(|filler| judge_with(face, call, lent, filler))?;
     if left.number == DONE {
         require(is_sound_box(&left.block), "a call left an unsound box")?;
+        require_sources(&left.frames)?;
         if let Some(asked) = call.ticks() {
             require_counted(&lent.block, &left.block, left.made)?;
             require_stopped(asked, &left)?;

@@ -1,6 +1,7 @@
 //! Calls of the head.
 
 use super::advances::{self, require_answer, require_counted, require_made};
+use super::frames::require_sources;
 use super::states::{head_of, is_sound_head};
 use super::{
     both, require, require_judged, require_number, word, Left, DONE, OUTPUT, RANGE, SHORT, UNSOUND,
@@ -79,6 +80,7 @@ pub fn judge_head(face: &dyn Face, call: &HeadCall, lent: &HeadLent) -> Result<L
     if left.number == DONE {
         let sound = is_sound_head(&left.block, &left.links);
         require(sound, "a call left an unsound head")?;
+        require_sources(&left.frames)?;
         if let Some(asked) = call.ticks() {
             require_counted(&lent.head, &left.block, left.made)?;
             let stopped = left.made == asked || !left.frames.is_empty();
