@@ -91,16 +91,34 @@ static uint64_t take_ticks(void)
 
 static uint64_t take_address(void)
 {
-    switch (take() % 4) {
+    switch (take() % 8) {
     case 0:
-        return 0x020000000001;
     case 1:
-        return 0x0180C2000001;
+        return 0x020000000001;
     case 2:
+        return 0x0180C2000001;
+    case 3:
         return take_word();
+    case 4:
+        return (uint64_t)1 << take() % 48;
     default:
         return 0x020000000031 + take() % LINKS;
     }
+}
+
+/* Whether a source is in range: not zero, no group's, and of 48 bits. */
+static int is_source(uint64_t address)
+{
+    return address != 0 && (address >> 40 & 1) == 0 && address >> 48 == 0;
+}
+
+static uint64_t source_of(const uint8_t *frame)
+{
+    uint64_t source = 0;
+
+    for (unsigned i = 6; i < 12; i++)
+        source = source << 8 | frame[i];
+    return source;
 }
 
 /* What a call may change: from here on it isn't compared. */
@@ -179,6 +197,7 @@ static void judge_words(int is_nobodys, int hears, uint8_t number)
     int is_read_first = hears && number >= CRUSTNEWT_SIZE && number <= CRUSTNEWT_RANGE;
 
     require(!is_nobodys || number == CRUSTNEWT_UNSOUND || number == CRUSTNEWT_SHORT || is_read_first, "words that are no state's are 13");
+    require(!hears || number != CRUSTNEWT_DONE || is_source(source_of(now.heard)), "no group and nobody is heard");
 }
 
 /* An advance says what it made: nothing where it is refused, else 1 to as many ticks as were asked for, and the count moves by that. */
@@ -201,10 +220,16 @@ static void judge_made(uint8_t number, uint64_t ticks, uint64_t count_before, ui
     require((uint32_t)(count_after - count_before) == made, "the count moves by the ticks made");
 }
 
-static void hand_over(const uint8_t *frame)
+/* Each frame of the output is from someone, and the last of them is to be heard. */
+static void hand_over(uint64_t frames)
 {
-    memcpy(now.heard, frame, CRUSTNEWT_FRAME_OCTETS);
-    heard_octets = CRUSTNEWT_FRAME_OCTETS;
+    for (uint64_t i = 0; i < frames; i++) {
+        const uint8_t *frame = now.output + i * CRUSTNEWT_FRAME_OCTETS;
+
+        require(is_source(source_of(frame)), "no frame is from a group or nobody");
+        memcpy(now.heard, frame, CRUSTNEWT_FRAME_OCTETS);
+        heard_octets = CRUSTNEWT_FRAME_OCTETS;
+    }
 }
 
 static void judge_box(unsigned call, uint8_t number, int is_short)
@@ -229,8 +254,7 @@ static void judge_box(unsigned call, uint8_t number, int is_short)
     require_kept("a refusal changes nothing, and what isn't used stays");
     count(call, number, now.box[CRUSTNEWT_BOX_STATE] * 8 + now.box[CRUSTNEWT_BOX_LIGHT], frames,
           notices > 0 ? now.reply[CRUSTNEWT_BOX_REPLY_NOTICE] : 0);
-    if (frames > 0)
-        hand_over(now.output + (frames - 1) * CRUSTNEWT_FRAME_OCTETS);
+    hand_over(frames);
 }
 
 static void call_box(unsigned call)
@@ -324,8 +348,7 @@ static void judge_head(unsigned call, uint8_t number, int is_short)
     require(number != CRUSTNEWT_DONE || (links >= 1 && links <= CRUSTNEWT_MOST_LINKS), "only 1 to 64 links are served");
     count(call, number, now.head[CRUSTNEWT_HEAD_WINDOW] * 4 + now.links[CRUSTNEWT_LINK_STATE], frames,
           notices > 0 ? now.reply[CRUSTNEWT_HEAD_REPLY_NOTICE] : 0);
-    if (frames > 0)
-        hand_over(now.output + (frames - 1) * CRUSTNEWT_FRAME_OCTETS);
+    hand_over(frames);
 }
 
 #define LENT now.head, words, now.links, table, now.output, octets, now.reply, told
@@ -402,6 +425,16 @@ static void call_head_until(void)
     judge_head(HEAD_ADVANCE + 1, number, 0);
 }
 
+/* A refused frame is the blank words, and those have no frame. */
+static void judge_blank(void)
+{
+    static const uint64_t blank[CRUSTNEWT_MESSAGE_WORDS] = {0, 0, 0, CRUSTNEWT_MESSAGE_REPORT};
+    uint8_t frame[CRUSTNEWT_FRAME_OCTETS];
+
+    require(memcmp(now.message, blank, sizeof blank) == 0, "a refused frame is an empty REPORT with every field 0");
+    require(crustnewt_write(blank, CRUSTNEWT_MESSAGE_WORDS, frame, sizeof frame) == CRUSTNEWT_RANGE, "the blank words aren't written");
+}
+
 static void call_read(void)
 {
     size_t words = take_length(CRUSTNEWT_MESSAGE_WORDS);
@@ -415,11 +448,10 @@ static void call_read(void)
     allow(now.message, CRUSTNEWT_MESSAGE_WORDS * sizeof *now.message);
     require_kept("reading changes the message alone");
     count(30, number, now.message[CRUSTNEWT_MESSAGE_KIND], 0, now.message[CRUSTNEWT_MESSAGE_BODY]);
-    if (number != CRUSTNEWT_DONE) {
-        require(now.message[CRUSTNEWT_MESSAGE_KIND] == CRUSTNEWT_MESSAGE_REPORT, "a refused frame is a REPORT");
-        now.message[CRUSTNEWT_MESSAGE_KIND] = 0;
-        require_zero(now.message, CRUSTNEWT_MESSAGE_WORDS, "a refused frame has no words");
-    }
+    if (number != CRUSTNEWT_DONE)
+        judge_blank();
+    else
+        require(is_source(now.message[CRUSTNEWT_MESSAGE_SOURCE]), "no message is from a group or nobody");
 }
 
 static void call_write(void)
@@ -438,6 +470,14 @@ static void call_write(void)
     count(31, number, now.message[CRUSTNEWT_MESSAGE_KIND], 0, now.message[CRUSTNEWT_MESSAGE_BODY]);
     for (unsigned i = 0; i < CRUSTNEWT_FRAME_OCTETS && number != CRUSTNEWT_DONE; i++)
         require(now.heard[i] == 0, "a refused message is written as zeros");
+    require(number != CRUSTNEWT_DONE || is_source(now.message[CRUSTNEWT_MESSAGE_SOURCE]), "no message from a group or nobody is written");
+}
+
+/* Of the frame to be heard: the writer takes no source that is to be refused. */
+static void set_source(uint64_t source)
+{
+    for (unsigned i = 12; i-- > 6; source >>= 8)
+        now.heard[i] = (uint8_t)source;
 }
 
 /* Changes something that a later call is handed. */
@@ -452,11 +492,13 @@ static void spoil(unsigned what)
     else if (what == 2)
         now.links[place % (CRUSTNEWT_LINK_WORDS * 2)] = take_word();
     else if (what == 3)
-        now.message[place % CRUSTNEWT_MESSAGE_WORDS] = place < 2 ? take_address() : take_word();
+        now.message[place % CRUSTNEWT_MESSAGE_WORDS] = place % CRUSTNEWT_MESSAGE_WORDS < 2 ? take_address() : take_word();
     else if (what == 4)
         now.heard[place % CRUSTNEWT_FRAME_OCTETS] = take();
-    else
+    else if (what == 5)
         heard_octets = place % (CRUSTNEWT_FRAME_OCTETS + GUARD + 1);
+    else
+        set_source(take_address());
 }
 
 int LLVMFuzzerTestOneInput(const uint8_t *octets, size_t length)
@@ -468,10 +510,11 @@ int LLVMFuzzerTestOneInput(const uint8_t *octets, size_t length)
     memset(&now, 0, sizeof now);
     now.box[CRUSTNEWT_BOX_ADDRESS] = 0x020000000031;
     now.head[CRUSTNEWT_HEAD_ADDRESS] = 0x020000000001;
+    now.message[CRUSTNEWT_MESSAGE_SOURCE] = 0x020000000001;
     heard_octets = 0;
     links = tables[take() % 6];
     while (input_left > 0) {
-        unsigned call = take() % 32;
+        unsigned call = take() % 33;
 
         if (call < 5)
             call_box(call);
@@ -491,8 +534,10 @@ int LLVMFuzzerTestOneInput(const uint8_t *octets, size_t length)
             call_box(BOX_ADVANCE);
         else if (call == 30)
             call_box_until();
-        else
+        else if (call == 31)
             call_head_until();
+        else
+            spoil(6);
     }
     return 0;
 }
