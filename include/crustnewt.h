@@ -306,8 +306,8 @@ uint64_t crustnewt_head_ticks_until(const uint64_t *head, size_t head_words, con
  *   REGISTER      flag (1 reregister, 2 deregister, 3 ack, 4 nack), port, sync time, pending
  *   REGISTER_ACK  flag (0 nack, 1 ack), port, sync time */
 enum crustnewt_message_word {
-    CRUSTNEWT_MESSAGE_DESTINATION = 0,
-    CRUSTNEWT_MESSAGE_SOURCE = 1,
+    CRUSTNEWT_MESSAGE_DESTINATION = 0, /* any 48 bits */
+    CRUSTNEWT_MESSAGE_SOURCE = 1,      /* 48 bits, not zero and no group's */
     CRUSTNEWT_MESSAGE_TIMESTAMP = 2,
     CRUSTNEWT_MESSAGE_KIND = 3,
     CRUSTNEWT_MESSAGE_BODY = 4
@@ -322,10 +322,12 @@ enum crustnewt_message_kind {
     CRUSTNEWT_MESSAGE_REGISTER_ACK = 5
 };
 
-/* A frame's octets read into the words of a message; CRUSTNEWT_SIZE, _KIND, _OPCODE or _RANGE where they are none. */
+/* A frame's octets read into the words of a message; CRUSTNEWT_SIZE, _KIND, _OPCODE or _RANGE where they are none. _RANGE is for a source
+ * of zero or a group's too. The words that a refusal leaves have no frame: to write them is CRUSTNEWT_RANGE. */
 uint8_t crustnewt_read(const uint8_t *octets, size_t octets_length, uint64_t *message, size_t message_words);
 
-/* The words of a message written into the first CRUSTNEWT_FRAME_OCTETS octets; CRUSTNEWT_RANGE where one is no field's or out of range. */
+/* The words of a message written into the first CRUSTNEWT_FRAME_OCTETS octets; CRUSTNEWT_RANGE where one is no field's or out of range, as
+ * a source is that is zero, a group's or above 48 bits. */
 uint8_t crustnewt_write(const uint64_t *message, size_t message_words, uint8_t *octets, size_t octets_length);
 
 /* A worked example, whole: a box that registers, comes back, and lives on a timer of 1 ms. examples/coarse.c has it on a board;
