@@ -1,7 +1,8 @@
 //! Values that the replay language can't write: addresses of more than 48
-//! bits, lengths and sync times of more than 16. Both cores are asked
-//! directly, one call at a time. No message of such values is heard: what is
-//! heard is octets, and no octets hold them.
+//! bits, lengths and sync times of more than 16; and what it never lets the
+//! writer see, sources that no frame may have. Both cores are asked directly,
+//! one call at a time. No message of such values is heard: what is heard is
+//! octets, and no octets hold them, or none that are read.
 
 use crate::generate::messages::{any_frame, any_message, granted};
 use crate::generate::states::{any_box, any_head, any_links};
