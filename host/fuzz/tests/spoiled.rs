@@ -224,7 +224,9 @@ impl Face for Spoiled {
             (Flaw::RefusalTells, 6) => memory.reply[0] = 1,
             (Flaw::SendsZero, 0) if memory.reply[0] > 0 => memory.output[6..12].fill(0),
             (Flaw::StrayNotice, 0) if memory.reply[1] == 0 => memory.reply[2] = 0,
-            (Flaw::RefusesSound, 6) if memory.links.len() > 5 && memory.links[6] > 0 => return 13,
+            (Flaw::RefusesSound, 6) if memory.links.get(6).is_some_and(|&state| state > 0) => {
+                return 13
+            }
             (Flaw::TakesNobodys, 13) if memory.head[2] == 0 && *call != HeadCall::Tick => return 6,
             _ => {}
         }
@@ -341,7 +343,7 @@ fn each_flaw_is_found() {
         Flaw::SendsZero,
     ] {
         let face = spoiled(flaw);
-        let found = (0..200).any(|seed| fuzz(&face, seed, &mut [0; 256]).is_err());
+        let found = (0..1000).any(|seed| fuzz(&face, seed, &mut [0; 256]).is_err());
         assert!(found, "{flaw:?}");
     }
 }
