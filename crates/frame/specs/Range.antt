@@ -11,7 +11,7 @@ use Rattle.frame.specs.declared.Body.{Body}
 use Rattle.frame.specs.declared.Body.the-variants.{Gate, Discovery, Report, RegisterReq, Register, RegisterAck}
 use Rattle.frame.specs.declared.Message.{Message}
 
--- R46: an individual address, and not zero; a group's has the lowest bit of its first octet set, bit 40 of the number
+-- R45, R46: an individual address, and not zero; the lowest bit of the first octet, bit 40 of the number, is set in a group's
 abbrev pub individualIn : ℕ → Bool
 individualIn a = leb a 0xFFFFFFFFFFFF && ltb 0 a && eqb (a / 2 ^ 40 % 2) 0
 

@@ -40,7 +40,7 @@ bodyInRange opcode l =
     -- R44
     (oneOf (fieldOf l 20 1) (0 ∷ 1 ∷ [])))))
 
--- R237; the destination, R48, is any
+-- R237: the source; a destination may be any (R48)
 unfoldable pub sourceInRange : List ℕ → Bool
 sourceInRange l = individualIn (fieldOf l 6 6)
 
