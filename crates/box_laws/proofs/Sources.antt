@@ -1,19 +1,18 @@
 -- The range test sees to the source of what is heard, the soundness of the box to that of its frames.
 -- Assumes nothing.
 use Prim.Native.Nat.{ℕ, zero, suc, _+_, _^_, _<_}
-use mathlib.Core.Path.{_≡_, sym, ap, _∙_}
-use mathlib.Core.Bool.{true}
+use mathlib.Core.Path.{ap}
 use native.Mathlib.Omega.{arith}
 use lib.Dec.{eqb}
 use Rattle.laws.specs.Cases.{either}
 use Rattle.laws.specs.Ticks.{ticks}
 use Rattle.clock.specs.Numbers.{inReach}
 use Rattle.clock.specs.declared.Count.{Count}
-use Rattle.frame.specs.Card.{numberOf}
+use Rattle.frame.specs.Layout.{encode}
+use Rattle.frame.specs.Range.{Valid}
 use Rattle.frame.specs.declared.Address.{Address}
 use Rattle.frame.specs.declared.Message.{Message}
 use Rattle.frame.specs.declared.Reply.the-variants.{Done}
-use Rattle.frame_range.specs.Fits.{isIndividual}
 use Rattle.frame_range.specs.Laws.{message-parts}
 use Rattle.frame_reader.proofs.Forth.{source-encoded}
 use Rattle.box_telling.specs.Told.{noFrames, handed}
@@ -26,33 +25,30 @@ use Rattle.box_calls.specs.Box.{soundOf}
 use Rattle.box_calls.specs.declared.Advanced.{Advanced}
 use Rattle.box_calls.specs.declared.Answer.{Answer}
 use Rattle.box_calls.specs.declared.FloorBox.{FloorBox}
-use Rattle.box_laws.specs.Calls.{step, Outcome, unsound, refuses, accepts, outcome}
+use Rattle.box_laws.specs.Calls.{step, Outcome, unsound, refuses, accepts, outcome, call-accepted}
 use Rattle.box_laws.specs.Frames.{Handed, step-count, call-frames}
 use Rattle.box_laws.specs.Sources.{HeardSource, Sourced, SentSource, AdvanceSource}
 use Rattle.box_laws.specs.Stated.{Call, hear, tick, answer, CallTyped}
 use Rattle.box_laws.proofs.Activated.{activate-leaves}
 
 -- what is heard
-heard-by : (b : FloorBox) (m : Message) (random : ℕ) (x : Answer) → Outcome (hear m random) b x → x .reply ≡ Done → isIndividual (m .source) ≡ true
-heard-by b m random x (unsound s e) d = absurd (omega (arith, ap (λ (y : Answer). numberOf (y .reply)) (sym e) ∙ ap numberOf d))
-heard-by b m random x (refuses s r n u e) d = absurd (n (ap (λ (y : Answer). numberOf (y .reply)) (sym e) ∙ ap numberOf d))
-heard-by b m random x (accepts s h e) d = message-parts m (h .1 .1 .0) .1
-
 pub heard-source : HeardSource
 unfolding HeardSource
-heard-source b m random = heard-by b m random (answer (hear m random) b) (outcome (hear m random) b)
+heard-source b m random d = message-parts m (call-accepted (hear m random) b d .passed .1 .1 .0) .1
 
 -- what is handed out
 none-sourced : Sourced noFrames
 none-sourced = record { first = λ k. absurd (omega (arith, k)); second = λ k. absurd (omega (arith, k)) }
 
+one-sourced : (m : Message) → Valid m → Sourced (handed noFrames (encode m))
+unfolding handed
+one-sourced m v = record { first = λ _. source-encoded m v; second = λ k. absurd (omega (arith, k)) }
+
 handed-sourced : (own : Address) (now : Count) (one two : Sent) (f : Frames) → Handed own now one two f → Sourced f
 unfolding handed
 handed-sourced own now Nothing Nothing f h = rw (h .frames) none-sourced
-handed-sourced own now Nothing (Is body) f h =
-    rw (h .frames) (record { first = λ _. source-encoded (messageOf own now body) (h .second-valid); second = λ k. absurd (omega (arith, k)) })
-handed-sourced own now (Is body) Nothing f h =
-    rw (h .frames) (record { first = λ _. source-encoded (messageOf own now body) (h .first-valid); second = λ k. absurd (omega (arith, k)) })
+handed-sourced own now Nothing (Is body) f h = rw (h .frames) (one-sourced (messageOf own now body) (h .second-valid))
+handed-sourced own now (Is body) Nothing f h = rw (h .frames) (one-sourced (messageOf own now body) (h .first-valid))
 handed-sourced own now (Is body) (Is other) f h =
     rw (h .frames)
     (record {

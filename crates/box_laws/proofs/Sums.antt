@@ -1,7 +1,7 @@
 -- Sums 11 and 12: the box that has heard the GATE waits 100 ticks for its first grant, and serves it.
 -- Assumes nothing.
 use Prim.Native.Nat.{ℕ, zero, suc, _+_, _^_, _≤_, _<_}
-use mathlib.Core.Path.{_≡_, refl, sym, ap, _∙_}
+use mathlib.Core.Path.{_≡_, refl, ap, _∙_}
 use mathlib.Core.Bool.{false}
 use mathlib.Core.List.{List, [], _∷_, map}
 use mathlib.Core.Logic.{_≢_}
@@ -14,13 +14,10 @@ use Rattle.clock.specs.Numbers.{needed}
 use Rattle.clock.specs.declared.Count.{Count}
 use Rattle.clock.specs.declared.Quanta.{Quanta}
 use Rattle.clock.specs.declared.Reach.the-variants.{Ahead}
-use Rattle.frame.specs.Card.{numberOf}
 use Rattle.frame.specs.Layout.{listed}
 use Rattle.frame.specs.declared.Grants.{Grants}
 use Rattle.frame.specs.declared.Grants.the-variants.{One, Two}
 use Rattle.frame.specs.declared.Message.{Message}
-use Rattle.frame.specs.declared.Reply.{Reply}
-use Rattle.frame.specs.declared.Reply.the-variants.{Done, Unsound}
 use Rattle.box_grants.specs.Activation.{settle}
 use Rattle.box_grants.specs.Laws.{packed-list}
 use Rattle.box_grants.specs.Listed.{listOf, packed, chooseOf}
@@ -37,13 +34,13 @@ use Rattle.box_activation.specs.Activation.{begin, activate}
 use Rattle.box_hearing.specs.Gate.{entryOf, gated}
 use Rattle.box_hearing.specs.Page.{takenOf}
 use Rattle.box_ticking.specs.Tick.{tickOf as processesTick}
-use Rattle.box_calls.specs.Answer.{refused, accepted}
+use Rattle.box_calls.specs.Answer.{accepted}
 use Rattle.box_calls.specs.Box.{tickOf}
 use Rattle.box_calls.specs.Hear.{hearOf}
 use Rattle.box_calls.specs.declared.Answer.{Answer}
 use Rattle.box_calls.specs.declared.FloorBox.{FloorBox}
-use Rattle.box_laws.specs.Calls.{step, drift, Outcome, unsound, refuses, accepts, outcome}
-use Rattle.box_laws.specs.Stated.{Call, hear, tick, Run, calls}
+use Rattle.box_laws.specs.Calls.{call-accepted}
+use Rattle.box_laws.specs.Stated.{hear, tick, Run, calls}
 use Rattle.box_laws.specs.Gate.{gate-list}
 use Rattle.box_laws.specs.Runs.{run-holds}
 use Rattle.box_laws.specs.Sends.{tick-sends}
@@ -67,14 +64,6 @@ abbrev first : Span
 first = record { start = record { 0 = 1100 }; length = record { 0 = 200 } }
 
 -- THE MESSAGE
-replied : (b : FloorBox) (x : Answer) (r : Reply) → x ≡ refused b r → x .reply ≡ Done → numberOf r ≡ 0
-replied b x r e d = ap (λ (y : Answer). numberOf (y .reply)) (sym e) ∙ ap numberOf d
-
-done-accepts : (c : Call) (b : FloorBox) (x : Answer) → Outcome c b x → x .reply ≡ Done → x ≡ accepted b (drift c b) (step c b)
-done-accepts c b x (unsound s e) d = absurd (omega (arith, replied b x Unsound e d))
-done-accepts c b x (refuses s r n u e) d = absurd (n (replied b x r e d))
-done-accepts c b x (accepts s h e) d = e
-
 -- what activation waits for
 waits-for : (r : Processes) (x : Span) (l : List Span) (w : ℕ) → r .light ≡ Rest → r .registration .state ≡ Registered
     → chooseOf (r .count .0) (needed (r .registration .sync .0)) (r .list) ≡ record { list = packed l; chosen = chosen.Due x }
@@ -100,7 +89,7 @@ module _ (b : FloorBox) (m : Message) (random : ℕ) (grants : Grants) (u : Hear
   heard-is : hearOf b m random .next .processes ≡ activate r
   unfolding accepted
   heard-is =
-      ap (λ (x : Answer). x .next .processes) (done-accepts (hear m random) b (hearOf b m random) (outcome (hear m random) b) (u .accepted))
+      ap (λ (x : Answer). x .next .processes) (call-accepted (hear m random) b (u .accepted) .answered)
       ∙ rw (u .body, u .count)
 
   gate-leaves : (r .light ≡ Rest) × (r .count ≡ record { 0 = 1000 }) × (r .registration ≡ heard (b .processes .registration))

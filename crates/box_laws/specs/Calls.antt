@@ -1,6 +1,6 @@
 -- Lemmas: R68 and R69 of the box: a call is accepted with every test passed, or it is refused and changes nothing.
 -- Assumes nothing.
-use mathlib.Core.Path.{_≡_, refl, ap}
+use mathlib.Core.Path.{_≡_, refl, sym, ap, _∙_}
 use mathlib.Core.Bool.{true, false, not}
 use mathlib.Core.List.{List, [], _∷_}
 use mathlib.Core.Logic.{_≢_}
@@ -83,6 +83,23 @@ outcome c b =
     (either (Outcome c b) (soundOf b) _ _
     (λ s. given-either Other (Outcome c b) (tests c b) (refused b) a (tests-other c b) (λ r o. refuses s r (o .0) (o .1) refl) (λ h. accepts s h refl))
     (λ s. unsound s refl))
+
+-- what is known of a call that is done
+pub record Accepted (c : Call) (b : FloorBox) (x : Answer) : Type 0 where
+  pub sound : soundOf b ≡ true
+  pub passed : Passed (tests c b)
+  pub answered : x ≡ accepted b (drift c b) (step c b)
+
+not-done : (b : FloorBox) (r : Reply) (x : Answer) → x ≡ refused b r → numberOf r ≢ 0 → x .reply ≢ Done
+not-done b r x e n d = n (ap numberOf (sym (ap (λ (y : Answer). y .reply) e) ∙ d))
+
+done-accepts : (c : Call) (b : FloorBox) (x : Answer) → Outcome c b x → x .reply ≡ Done → Accepted c b x
+done-accepts c b x (unsound s e) d = absurd (not-done b Unsound x e (omega arith) d)
+done-accepts c b x (refuses s r n u e) d = absurd (not-done b r x e n d)
+done-accepts c b x (accepts s h e) d = record { sound = s; passed = h; answered = e }
+
+pub call-accepted : (c : Call) (b : FloorBox) → answer c b .reply ≡ Done → Accepted c b (answer c b)
+call-accepted c b = done-accepts c b (answer c b) (outcome c b)
 
 refusal : (b : FloorBox) (x : Answer) (r : Reply) → x ≡ refused b r → Unchanged b x
 refusal b x r e = rw e (record { drift = refl; next = refl; frames = refl; notices = refl })

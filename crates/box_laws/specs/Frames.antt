@@ -1,22 +1,19 @@
 -- Lemmas: R99: the frames of an accepted call are the encodings of valid messages.
 -- Assumes nothing.
 use Prim.Native.Nat.{_^_, _<_}
-use mathlib.Core.Path.{_≡_, refl, sym, ap, _∙_}
+use mathlib.Core.Path.{_≡_, refl, ap, _∙_}
 use mathlib.Core.Bool.{true, and-eq-true-iff}
-use mathlib.Core.Logic.{_≢_}
 use native.Mathlib.Omega.{arith}
 use lib.Dec.{eqb}
 use lib.IntN.{ℤ}
 use Rattle.clock.specs.Counts.{nextOf}
 use Rattle.clock.specs.declared.Count.{Count}
-use Rattle.frame.specs.Card.{numberOf}
 use Rattle.frame.specs.Layout.{encode}
 use Rattle.frame.specs.Range.{BodyFits, Valid}
 use Rattle.frame.specs.Tests.{Passed}
 use Rattle.frame.specs.declared.Address.{Address}
 use Rattle.frame.specs.declared.Body.{Body}
-use Rattle.frame.specs.declared.Reply.{Reply}
-use Rattle.frame.specs.declared.Reply.the-variants.{Done, Unsound}
+use Rattle.frame.specs.declared.Reply.the-variants.{Done}
 use Rattle.frame.specs.declared.Writing.{Writing}
 use Rattle.frame_range.specs.Fits.{isIndividual}
 use Rattle.frame_range.specs.Laws.{valid-of}
@@ -28,11 +25,10 @@ use Rattle.box_telling.specs.declared.Sent.the-variants.{Nothing, Is}
 use Rattle.box_processes.specs.Parts.{withCount}
 use Rattle.box_processes.specs.Sound.{soundOf as processesSound}
 use Rattle.box_processes.specs.declared.Step.{Step}
-use Rattle.box_calls.specs.Answer.{messageOf, refused, framed, accepted}
+use Rattle.box_calls.specs.Answer.{messageOf, framed, accepted}
 use Rattle.box_calls.specs.Box.{soundOf}
-use Rattle.box_calls.specs.declared.Answer.{Answer}
 use Rattle.box_calls.specs.declared.FloorBox.{FloorBox}
-use Rattle.box_laws.specs.Calls.{tests, step, drift, Outcome, unsound, refuses, accepts, outcome}
+use Rattle.box_laws.specs.Calls.{tests, step, drift, call-accepted}
 use Rattle.box_laws.specs.Stated.{Call, register, deregister, hear, tick, answer, CallTyped}
 use Rattle.box_laws.specs.Sends.{SentFits, Sends, tick-sends, hear-sends}
 
@@ -109,22 +105,13 @@ sound-address : (b : FloorBox) → soundOf b ≡ true → isIndividual (b .addre
 unfolding soundOf
 sound-address b s = and-eq-true-iff (isIndividual (b .address)) (processesSound (b .processes)) .0 s .0
 
-replied : (b : FloorBox) (x : Answer) (r : Reply) → x ≡ refused b r → x .reply ≡ Done → r ≡ Done
-replied b x r e d = ap (λ (y : Answer). y .reply) (sym e) ∙ d
-
 module _ (c : Call) (b : FloorBox) (t : CallTyped c) (k : b .processes .count .0 < 2 ^ 32) where
   abbrev HandedBy : Frames → Type 0
   HandedBy f = Handed (b .address) (countAfter c b) (step c b .first) (step c b .second) f
 
-  done-frames : (x : Answer) → Outcome c b x → x .reply ≡ Done → HandedBy (x .frames)
-  done-frames x (unsound s e) d = absurd (thirteen (ap numberOf (replied b x Unsound e d)))
-    where
-      thirteen : numberOf Unsound ≢ 0
-      thirteen = omega arith
-  done-frames x (refuses s r n u e) d = absurd (n (ap numberOf (replied b x r e d)))
-  done-frames x (accepts s h e) d =
-      rw e (accepted-frames b (drift c b) (step c b) (countAfter c b) (sound-address b s) (count-below c b t k) (step-sends c b t h))
-
   -- the frames of an accepted call are the encodings of the valid messages that its step sends, first and second; a refusal has none
   pub call-frames : answer c b .reply ≡ Done → HandedBy (answer c b .frames)
-  call-frames = done-frames (answer c b) (outcome c b)
+  call-frames d =
+      let a = call-accepted c b d in
+      rw (a .answered)
+      (accepted-frames b (drift c b) (step c b) (countAfter c b) (sound-address b (a .sound)) (count-below c b t k) (step-sends c b t (a .passed)))
