@@ -223,13 +223,12 @@ static void judge_made(uint8_t number, uint64_t ticks, uint64_t count_before, ui
 /* Each frame of the output is from someone, and the last of them is to be heard. */
 static void hand_over(uint64_t frames)
 {
-    for (uint64_t i = 0; i < frames; i++) {
-        const uint8_t *frame = now.output + i * CRUSTNEWT_FRAME_OCTETS;
-
-        require(is_source(source_of(frame)), "no frame is from a group or nobody");
-        memcpy(now.heard, frame, CRUSTNEWT_FRAME_OCTETS);
-        heard_octets = CRUSTNEWT_FRAME_OCTETS;
-    }
+    for (uint64_t i = 0; i < frames; i++)
+        require(is_source(source_of(now.output + i * CRUSTNEWT_FRAME_OCTETS)), "no frame is from a group or nobody");
+    if (frames == 0)
+        return;
+    memcpy(now.heard, now.output + (frames - 1) * CRUSTNEWT_FRAME_OCTETS, CRUSTNEWT_FRAME_OCTETS);
+    heard_octets = CRUSTNEWT_FRAME_OCTETS;
 }
 
 static void judge_box(unsigned call, uint8_t number, int is_short)

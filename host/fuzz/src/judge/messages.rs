@@ -5,7 +5,8 @@ use crustnewt::sys::MESSAGE_WORDS;
 use plain::frame::{AckFlag, RegisterFlag, RequestFlag};
 use plain::{Address, Body, Count, Gate, Granted, Message};
 
-/// Whether a source is in range: not zero, no group's, and of 48 bits.
+/// Whether a source is in range, as the header has it: not zero, no group's,
+/// and of 48 bits. What the plain program reads is held against it too.
 pub fn is_source(address: u64) -> bool {
     let group = address >> 40 & 1 == 1;
     address != 0 && !group && address >> 48 == 0
