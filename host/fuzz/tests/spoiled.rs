@@ -89,11 +89,9 @@ enum Flaw {
 /// The octets, from a party where they were from a group.
 fn ungrouped(octets: &[u8]) -> Vec<u8> {
     let mut octets = octets.to_vec();
-    octets
-        .iter_mut()
-        .skip(6)
-        .take(1)
-        .for_each(|first| *first &= !1);
+    if let Some(first) = octets.get_mut(6) {
+        *first &= !1;
+    }
     octets
 }
 
