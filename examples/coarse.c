@@ -1,17 +1,20 @@
 /* A floor box on a board whose timer ends with each millisecond, 62,500 quanta: first the example of crustnewt.h, word for word, then a board
  * that it runs on. Prints the board's clock and what happens; examples/coarse.txt has it, worked out by hand: the laser is switched at its
- * quantum, and a REPORT that is due while the board sleeps has the stamp of its own tick. Once it is registered the head falls silent for a
- * second: the box leaves, asks to register again, and must be registered at the end. */
+ * quantum, a REPORT that is due while the board sleeps has the stamp of its own tick, and one that a grant's force bit asks for says how much
+ * waits. Once it is registered the head falls silent for a second: the box leaves, asks to register again, and must be registered at the
+ * end. */
 #include "crustnewt.h"
 
 // The board's: it sleeps so many quanta, or less if a frame comes, one has gone or its millisecond is over, and says how many have
-// passed. It takes the frame that came and knows the first that waits to be sent, of 0 octets where there is none or one is going.
+// passed. It takes the frame that came and knows the first that waits to be sent, of 0 octets where there is none or one is going, and
+// how many quanta of data wait behind.
 uint64_t sleep_for(uint64_t quanta);
 size_t take_frame(uint8_t *octets);
 void queue_frame(const uint8_t *octets);
 void empty_queue(void);
 const uint8_t *first_in_queue(size_t *octets);
 void send_first(void);
+uint16_t data_waiting(void);
 void laser(int on);
 uint32_t random_number(void);
 
@@ -58,6 +61,38 @@ static void join(void)
         empty_queue();
 }
 
+// Whether one of the grants that were told of has its force bit set.
+static int is_forced(void)
+{
+    int forced = 0;
+
+    for (uint64_t i = 0; i < reply[CRUSTNEWT_BOX_REPLY_NOTICES]; i++) {
+        const uint64_t *notice = reply + CRUSTNEWT_BOX_REPLY_NOTICE + i * CRUSTNEWT_BOX_NOTICE_WORDS;
+
+        forced |= notice[0] == CRUSTNEWT_BOX_NOTICE_GRANT && notice[3] == 1;
+    }
+    return forced;
+}
+
+// The head wants to know how much waits: one queue set, of queue 0 alone.
+static void report(void)
+{
+    uint16_t length = data_waiting();
+    const uint8_t set[] = {1, length >> 8, length & 0xFF};
+
+    if (crustnewt_box_report(1, set, sizeof set, LENT) == CRUSTNEWT_DONE)
+        told();
+}
+
+static void hear(const uint8_t *octets, size_t heard)
+{
+    if (crustnewt_box_hear(octets, heard, random_number(), LENT) != CRUSTNEWT_DONE)
+        return;
+    told();
+    if (is_forced())
+        report();
+}
+
 uint8_t run(uint64_t address)
 {
     uint8_t octets[2048], number = crustnewt_box_fresh(address, LENT);
@@ -69,8 +104,8 @@ uint8_t run(uint64_t address)
         join();
         number = pass(sleep_for(leisure()));
         heard = take_frame(octets);
-        if (heard > 0 && crustnewt_box_hear(octets, heard, random_number(), LENT) == CRUSTNEWT_DONE)
-            told();
+        if (heard > 0)
+            hear(octets, heard);
         control = first_in_queue(&waiting);
         if (crustnewt_box_next_to_send(box, CRUSTNEWT_BOX_WORDS, control, waiting, control, 0) == 1)
             send_first();
@@ -94,13 +129,14 @@ uint8_t run(uint64_t address)
 #define BOX 0x020000000031
 #define GRANT(start, length) ((uint64_t)(start) << 32 | (length))
 
-/* The frames that come: when, and the words of their messages. The head registers the box, is silent, and does it again. */
+/* The frames that come: when, and the words of their messages. The head registers the box, asks how much waits, is silent, and registers
+ * it again. */
 static const struct {
     uint64_t at, words[CRUSTNEWT_MESSAGE_WORDS];
 } arrivals[ARRIVALS] = {
     {100000, {EVERYONE, HEAD, 99950, CRUSTNEWT_MESSAGE_DISCOVERY, 0, 0, GRANT(100050, 174)}},
     {100400, {BOX, HEAD, 100350, CRUSTNEWT_MESSAGE_REGISTER, 3, 1, 10, 16}},
-    {100450, {BOX, HEAD, 100400, CRUSTNEWT_MESSAGE_GATE, 1, 0, GRANT(100600, 200)}},
+    {100450, {BOX, HEAD, 100400, CRUSTNEWT_MESSAGE_GATE, 1, 1, GRANT(100600, 200)}},
     {62700000, {EVERYONE, HEAD, 62699950, CRUSTNEWT_MESSAGE_DISCOVERY, 0, 0, GRANT(62700050, 174)}},
     {62700400, {BOX, HEAD, 62700350, CRUSTNEWT_MESSAGE_REGISTER, 3, 1, 10, 16}},
     {62700450, {BOX, HEAD, 62700400, CRUSTNEWT_MESSAGE_GATE, 1, 0, GRANT(62700600, 200)}},
@@ -119,7 +155,7 @@ static void must(int holds, const char *what)
     exit(1);
 }
 
-/* Says what becomes of a frame, and of one that is handed out its stamp. */
+/* Says what becomes of a frame, and of one that is handed out its stamp and the queue that it tells of. */
 static void say(const char *what, const uint8_t *frame, int stamp)
 {
     static const char *const kinds[] = {"GATE", "discovery GATE", "REPORT", "REGISTER_REQ", "REGISTER", "REGISTER_ACK"};
@@ -129,6 +165,8 @@ static void say(const char *what, const uint8_t *frame, int stamp)
     printf("%8" PRIu64 "  %s %s", now, what, kinds[message[CRUSTNEWT_MESSAGE_KIND]]);
     if (stamp)
         printf(", stamp %" PRIu64, message[CRUSTNEWT_MESSAGE_TIMESTAMP]);
+    if (stamp && message[CRUSTNEWT_MESSAGE_KIND] == CRUSTNEWT_MESSAGE_REPORT && message[CRUSTNEWT_MESSAGE_BODY] != 0)
+        printf(", %" PRIu64 " of data", message[CRUSTNEWT_MESSAGE_BODY] >> 32 & 0xFFFF);
     printf("\n");
 }
 
@@ -199,6 +237,11 @@ void send_first(void)
     say("sends", queue[0], 0);
     take_first_out();
     sending_until = now + FRAME_QUANTA;
+}
+
+uint16_t data_waiting(void)
+{
+    return 772;
 }
 
 void laser(int on)

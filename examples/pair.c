@@ -1,5 +1,6 @@
 /* A head and a floor box in one program, with a fibre of 50 quanta between them: the box registers, sends in the grant that it is given, and
- * both clients hear of it; then the head drops it, and it registers again. Prints what happens in which quantum; examples/pair.txt has it,
+ * both clients hear of it; the grant's force bit asks how much waits at the box, and its client answers. Then the head drops it, and it
+ * registers again. Prints what happens in which quantum; examples/pair.txt has it,
  * worked out by hand. */
 #include <inttypes.h>
 #include <stdarg.h>
@@ -16,6 +17,7 @@
 #define DROP 800        /* the quantum in which the head drops the box */
 #define WINDOWS 1000    /* quanta from one discovery window to the next */
 #define QUANTA 1800
+#define DATA 772        /* quanta of data that wait at the box, in its queue 0 */
 
 static const uint64_t head_address = 0x020000000001, box_address = 0x020000000031;
 
@@ -101,6 +103,8 @@ static uint64_t head_told(uint8_t number)
         notice = head_reply[CRUSTNEWT_HEAD_REPLY_NOTICE];
         say("head", "notice: %s, link %" PRIu64 ", round trip %" PRIu64, notices[notice], head_reply[CRUSTNEWT_HEAD_REPLY_LINK],
             head_reply[CRUSTNEWT_HEAD_REPLY_TRIP]);
+        if (head_reply[CRUSTNEWT_HEAD_REPLY_SETS] != 0)
+            say("head", "queue 0 there has %" PRIu64, head_reply[CRUSTNEWT_HEAD_REPLY_SETS] >> 32 & 0xFFFF);
     }
     for (uint64_t i = 0; i < head_reply[CRUSTNEWT_HEAD_REPLY_FRAMES]; i++) {
         say("head", "sends %s", kind(output + i * CRUSTNEWT_FRAME_OCTETS));
@@ -109,25 +113,28 @@ static uint64_t head_told(uint8_t number)
     return notice;
 }
 
-/* What a call of the box told; its frames wait until they may be sent. */
-static void box_told(uint8_t number)
+/* What a call of the box told: whether a REPORT is forced. Its frames wait until they may be sent. */
+static int box_told(uint8_t number)
 {
     static const char *const notices[] = {"none",  "window", "registered", "refused", "retry", "deregistered",
                                           "grant", "open",   "close"};
+    int forced = 0;
 
     done(number);
     for (uint64_t i = 0; i < box_reply[CRUSTNEWT_BOX_REPLY_NOTICES]; i++) {
         const uint64_t *notice = box_reply + CRUSTNEWT_BOX_REPLY_NOTICE + i * CRUSTNEWT_BOX_NOTICE_WORDS;
 
         if (notice[0] == CRUSTNEWT_BOX_NOTICE_GRANT)
-            say("box", "notice: grant, start %" PRIu64 ", length %" PRIu64, notice[1], notice[2]);
+            say("box", "notice: grant, start %" PRIu64 ", length %" PRIu64 ", force bit %" PRIu64, notice[1], notice[2], notice[3]);
         else
             say("box", "notice: %s", notices[notice[0]]);
+        forced |= notice[3] == 1;
     }
     for (uint64_t i = 0; i < box_reply[CRUSTNEWT_BOX_REPLY_FRAMES]; i++) {
         say("box", "hands out %s", kind(frames + i * CRUSTNEWT_FRAME_OCTETS));
         put(&waiting, frames + i * CRUSTNEWT_FRAME_OCTETS, quantum);
     }
+    return forced;
 }
 
 /* The place of the link that a box holds, from 1; 0 where it holds none. */
@@ -147,13 +154,13 @@ static size_t link_under(const uint64_t *message)
     return link_of(message[CRUSTNEWT_MESSAGE_SOURCE]);
 }
 
-/* The head's client admits whoever asks, and grants it 200 quanta, 220 from now. */
+/* The head's client admits whoever asks, and grants it 200 quanta, 220 from now, with the force bit. */
 static void admit(const uint64_t *request)
 {
     uint64_t address = request[CRUSTNEWT_MESSAGE_SOURCE], grant = (head[CRUSTNEWT_HEAD_COUNT] + 220) << 32 | 200;
 
     head_told(crustnewt_head_admit(address, (uint8_t)request[CRUSTNEWT_MESSAGE_BODY + 1], 10, HEAD_ALL));
-    head_told(crustnewt_head_gate(link_of(address), &grant, 1, 0, HEAD_ALL));
+    head_told(crustnewt_head_gate(link_of(address), &grant, 1, 1, HEAD_ALL));
 }
 
 /* What it does by itself. */
@@ -176,6 +183,15 @@ static void join(void)
         waiting.length = 0;
 }
 
+/* It tells how much waits when it is asked: one queue set, of queue 0 alone. */
+static void report(void)
+{
+    static const uint8_t set[] = {1, DATA >> 8, DATA & 0xFF};
+
+    say("box", "its client asks for a REPORT");
+    box_told(crustnewt_box_report(1, set, sizeof set, BOX_ALL));
+}
+
 /* Hands over what has arrived. */
 static void deliver(void)
 {
@@ -186,7 +202,8 @@ static void deliver(void)
         uint8_t number = crustnewt_box_hear(frame, sizeof frame, 250, BOX_ALL);
 
         say("box", "hears %s, drift %" PRId64, kind(frame), (int64_t)box_reply[CRUSTNEWT_BOX_REPLY_DRIFT]);
-        box_told(number);
+        if (box_told(number))
+            report();
     }
     while (take(&up, frame)) {
         say("head", "hears %s", kind(frame));

@@ -47,11 +47,15 @@ static const uint64_t messages[][CRUSTNEWT_MESSAGE_WORDS] = {
     {BOX, HEAD, COUNT, CRUSTNEWT_MESSAGE_REGISTER, 3, 1, 10, 16},
     {BOX, HEAD, COUNT, CRUSTNEWT_MESSAGE_REGISTER, 4, 0, 0, 16},
     {EVERYONE, BOX, COUNT, CRUSTNEWT_MESSAGE_REPORT},
+    {EVERYONE, BOX, COUNT, CRUSTNEWT_MESSAGE_REPORT, 0x03FFull << 48, 0, 0xFFull << 40, 0, 3ull << 32},
     {EVERYONE, BOX, COUNT, CRUSTNEWT_MESSAGE_REGISTER_REQ, 1, 16},
     {EVERYONE, BOX, COUNT, CRUSTNEWT_MESSAGE_REGISTER_REQ, 3, 0},
     {EVERYONE, BOX, COUNT, CRUSTNEWT_MESSAGE_REGISTER_ACK, 0, 1, 10},
     {EVERYONE, BOX, COUNT, CRUSTNEWT_MESSAGE_REGISTER_ACK, 1, 1, 10},
 };
+
+/* Two queue sets of eight queues and one of two, as in the last REPORT: there is room for no more. */
+static const uint8_t sets[CRUSTNEWT_MOST_SETS_OCTETS] = {[0] = 0xFF, [17] = 0xFF, [34] = 3};
 
 /* What calls change, and what they are asked for with. */
 static struct {
@@ -77,6 +81,7 @@ static uint64_t box_reply[CRUSTNEWT_BOX_REPLY_WORDS], head_reply[CRUSTNEWT_HEAD_
     CALL(BOX, box_fresh, (BOX, BOX_ALL)) \
     CALL(BOX, box_register, (BOX_ALL)) \
     CALL(BOX, box_deregister, (BOX_ALL)) \
+    CALL(BOX, box_report, (3, sets, sizeof sets, BOX_ALL)) \
     CALL(BOX, box_hear, (FRAME, 250, BOX_ALL)) \
     CALL(BOX, box_tick, (BOX_ALL)) \
     CALL(BOX, box_advance, (CRUSTNEWT_MOST_TICKS, BOX_ALL, &made, 1)) \

@@ -46,6 +46,8 @@
  *     old one that was sent there instead gave the head a round trip of 3,750,549 for 123.
  *   - Send in time. That window is as long as that frame: ask crustnewt_box_next_to_send in the quantum in which it is handed out. What has
  *     waited for 3,125,000 quanta is of no use to the head: throw it away. A box without grants hands out a REPORT as often all the same.
+ *   - Tell of queues. What a box hands out by itself has no queue sets, and a grant's force bit sends nothing: you find it in the notice of
+ *     the grant, and answer it by crustnewt_box_report.
  *   - Name the link on which the head hears a frame: crustnewt_head_hear says which that is.
  *   - Tell head and box of every quantum. That no half-open pair lasts rests on timers that run at one rate.
  */
@@ -60,9 +62,9 @@ extern "C" {
 #endif
 
 /* The version of the library, as `crustnewt --version` and pkg-config tell it. */
-#define CRUSTNEWT_VERSION "0.3.0"
+#define CRUSTNEWT_VERSION "0.4.0"
 #define CRUSTNEWT_VERSION_MAJOR 0
-#define CRUSTNEWT_VERSION_MINOR 3
+#define CRUSTNEWT_VERSION_MINOR 4
 #define CRUSTNEWT_VERSION_PATCH 0
 
 /* How many elements to lend. */
@@ -75,10 +77,11 @@ extern "C" {
 #define CRUSTNEWT_HEAD_WORDS 5
 #define CRUSTNEWT_LINK_WORDS 5     /* for each link of the table */
 #define CRUSTNEWT_MOST_LINKS 64
-#define CRUSTNEWT_HEAD_REPLY_WORDS 5
+#define CRUSTNEWT_HEAD_REPLY_WORDS 10
 #define CRUSTNEWT_MADE_WORDS 1 /* for the number of ticks that an advance made */
 
 #define CRUSTNEWT_MOST_TICKS 65536       /* of one advance */
+#define CRUSTNEWT_MOST_SETS_OCTETS 39    /* of a REPORT's queue sets */
 #define CRUSTNEWT_BOX_STACK_OCTETS 6144  /* that a call takes, with its arguments: measured (examples/stack.c) and rounded up */
 #define CRUSTNEWT_HEAD_STACK_OCTETS 5120
 
@@ -174,6 +177,13 @@ uint8_t crustnewt_box_register(uint64_t *block, size_t block_words, uint8_t *fra
 uint8_t crustnewt_box_deregister(uint64_t *block, size_t block_words, uint8_t *frames, size_t frames_octets, uint64_t *reply,
                                  size_t reply_words);
 
+/* The client asks for a REPORT of `number` queue sets, or of none; the timer for the next one begins anew. `sets` has their octets: for each
+ * set its bitmap, bit 0 for queue 0, then the length of every queue whose bit is set, the lowest queue first, in two octets, most significant
+ * first. What a length counts is between you and the head's client; Clause 64 counts quanta. CRUSTNEWT_STATE unless the box is REGISTERED;
+ * CRUSTNEWT_RANGE unless the octets are exactly so many sets, and at most CRUSTNEWT_MOST_SETS_OCTETS. */
+uint8_t crustnewt_box_report(uint8_t number, const uint8_t *sets, size_t sets_octets, uint64_t *block, size_t block_words, uint8_t *frames,
+                             size_t frames_octets, uint64_t *reply, size_t reply_words);
+
 /* A frame came: its octets from the destination address on, without check sequence. `random` is any random number; it sets the
  * random wait of a discovery GATE. First the numbers of crustnewt_read; CRUSTNEWT_DIRECTION, CRUSTNEWT_PARTY. */
 uint8_t crustnewt_box_hear(const uint8_t *octets, size_t octets_length, uint32_t random, uint64_t *block, size_t block_words,
@@ -232,14 +242,15 @@ enum crustnewt_head_reply_word {
     CRUSTNEWT_HEAD_REPLY_NOTICES = 1, /* how many notices, 0 or 1 */
     CRUSTNEWT_HEAD_REPLY_NOTICE = 2,  /* the notice: enum crustnewt_head_notice */
     CRUSTNEWT_HEAD_REPLY_LINK = 3,    /* its link, 0 of a request */
-    CRUSTNEWT_HEAD_REPLY_TRIP = 4     /* its round trip, in quanta: from the frame's timestamp on, so with what it waited at the box */
+    CRUSTNEWT_HEAD_REPLY_TRIP = 4,    /* its round trip, in quanta: from the frame's timestamp on, so with what it waited at the box */
+    CRUSTNEWT_HEAD_REPLY_SETS = 5     /* of a REPORT its body, five words as in its message; of other notices five times 0 */
 };
 
 enum crustnewt_head_notice {
     CRUSTNEWT_HEAD_NOTICE_REQUEST = 1,    /* a box asks to register: source and pending of the frame are for admit or reject */
     CRUSTNEWT_HEAD_NOTICE_REGISTERED = 2,
     CRUSTNEWT_HEAD_NOTICE_DROPPED = 3,    /* the box said that it leaves, or won't join */
-    CRUSTNEWT_HEAD_NOTICE_REPORT = 4
+    CRUSTNEWT_HEAD_NOTICE_REPORT = 4      /* with its queue sets, which the head doesn't keep */
 };
 
 /* The calls of the head. `links` is the table, of links_words / CRUSTNEWT_LINK_WORDS links, numbered from 1; `output` needs
@@ -301,7 +312,8 @@ uint64_t crustnewt_head_ticks_until(const uint64_t *head, size_t head_words, con
 /* Frames by themselves: the words of a message. What it doesn't hold is 0. From CRUSTNEWT_MESSAGE_BODY on:
  *   GATE          how many grants (0 to 4), force bits (bit 0 the first grant's), then the grants
  *   DISCOVERY     sync time, force bit, its grant
- *   REPORT        nothing
+ *   REPORT        the forty octets of its body, eight to a word, the first highest: how many queue sets, the sets as crustnewt_box_report
+ *                 takes them, and zeros; CRUSTNEWT_RANGE to write another octet behind them, or sets that run past
  *   REGISTER_REQ  flag (1 register, 3 deregister), pending
  *   REGISTER      flag (1 reregister, 2 deregister, 3 ack, 4 nack), port, sync time, pending
  *   REGISTER_ACK  flag (0 nack, 1 ack), port, sync time */
@@ -334,13 +346,15 @@ uint8_t crustnewt_write(const uint64_t *message, size_t message_words, uint8_t *
  * examples/pair.c has both ends, quantum by quantum.
  *
  *   // The board's: it sleeps so many quanta, or less if a frame comes, one has gone or its millisecond is over, and says how many have
- *   // passed. It takes the frame that came and knows the first that waits to be sent, of 0 octets where there is none or one is going.
+ *   // passed. It takes the frame that came and knows the first that waits to be sent, of 0 octets where there is none or one is going, and
+ *   // how many quanta of data wait behind.
  *   uint64_t sleep_for(uint64_t quanta);
  *   size_t take_frame(uint8_t *octets);
  *   void queue_frame(const uint8_t *octets);
  *   void empty_queue(void);
  *   const uint8_t *first_in_queue(size_t *octets);
  *   void send_first(void);
+ *   uint16_t data_waiting(void);
  *   void laser(int on);
  *   uint32_t random_number(void);
  *
@@ -387,6 +401,38 @@ uint8_t crustnewt_write(const uint64_t *message, size_t message_words, uint8_t *
  *           empty_queue();
  *   }
  *
+ *   // Whether one of the grants that were told of has its force bit set.
+ *   static int is_forced(void)
+ *   {
+ *       int forced = 0;
+ *
+ *       for (uint64_t i = 0; i < reply[CRUSTNEWT_BOX_REPLY_NOTICES]; i++) {
+ *           const uint64_t *notice = reply + CRUSTNEWT_BOX_REPLY_NOTICE + i * CRUSTNEWT_BOX_NOTICE_WORDS;
+ *
+ *           forced |= notice[0] == CRUSTNEWT_BOX_NOTICE_GRANT && notice[3] == 1;
+ *       }
+ *       return forced;
+ *   }
+ *
+ *   // The head wants to know how much waits: one queue set, of queue 0 alone.
+ *   static void report(void)
+ *   {
+ *       uint16_t length = data_waiting();
+ *       const uint8_t set[] = {1, length >> 8, length & 0xFF};
+ *
+ *       if (crustnewt_box_report(1, set, sizeof set, LENT) == CRUSTNEWT_DONE)
+ *           told();
+ *   }
+ *
+ *   static void hear(const uint8_t *octets, size_t heard)
+ *   {
+ *       if (crustnewt_box_hear(octets, heard, random_number(), LENT) != CRUSTNEWT_DONE)
+ *           return;
+ *       told();
+ *       if (is_forced())
+ *           report();
+ *   }
+ *
  *   uint8_t run(uint64_t address)
  *   {
  *       uint8_t octets[2048], number = crustnewt_box_fresh(address, LENT);
@@ -398,8 +444,8 @@ uint8_t crustnewt_write(const uint64_t *message, size_t message_words, uint8_t *
  *           join();
  *           number = pass(sleep_for(leisure()));
  *           heard = take_frame(octets);
- *           if (heard > 0 && crustnewt_box_hear(octets, heard, random_number(), LENT) == CRUSTNEWT_DONE)
- *               told();
+ *           if (heard > 0)
+ *               hear(octets, heard);
  *           control = first_in_queue(&waiting);
  *           if (crustnewt_box_next_to_send(box, CRUSTNEWT_BOX_WORDS, control, waiting, control, 0) == 1)
  *               send_first();

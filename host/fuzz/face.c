@@ -13,7 +13,11 @@
 #define GUARD 16
 #define COUNTERS 16384
 #define BOX_ADVANCE 5
+#define BOX_REPORT 7
 #define HEAD_ADVANCE 19
+#define BODY_OCTETS (1 + CRUSTNEWT_MOST_SETS_OCTETS)
+#define BODY_AT (CRUSTNEWT_FRAME_OCTETS - BODY_OCTETS)
+#define LONGEST_SET 17
 
 /* Everything that is lent, with guards between. */
 struct memory {
@@ -25,6 +29,7 @@ struct memory {
     uint64_t made[CRUSTNEWT_MADE_WORDS + GUARD];
     uint8_t output[CRUSTNEWT_FRAME_OCTETS * LINKS + GUARD];
     uint8_t heard[CRUSTNEWT_FRAME_OCTETS + GUARD];
+    uint8_t sets[CRUSTNEWT_MOST_SETS_OCTETS + LONGEST_SET + GUARD];
 };
 
 static struct memory now, before;
@@ -104,6 +109,38 @@ static uint64_t take_address(void)
     default:
         return 0x020000000031 + take() % LINKS;
     }
+}
+
+/* How many octets so many queue sets take of these; more than there are, where they run past. */
+static size_t taken(uint8_t number, const uint8_t *sets, size_t octets)
+{
+    size_t used = 0;
+
+    for (; number > 0; number--) {
+        uint8_t bitmap = used < octets ? sets[used] : 0;
+
+        for (used++; bitmap != 0; bitmap &= bitmap - 1)
+            used += 2;
+    }
+    return used;
+}
+
+/* Queue sets to ask for, mostly whole ones and as many as is said: their number, and how many octets are lent. */
+static uint8_t take_sets(size_t *lent)
+{
+    uint8_t most = take() % (BODY_OCTETS + 1), number = 0;
+    size_t used = 0;
+
+    for (; number < most && used < CRUSTNEWT_MOST_SETS_OCTETS; number++) {
+        uint8_t bitmap = take();
+
+        for (now.sets[used++] = bitmap; bitmap != 0; bitmap &= bitmap - 1) {
+            now.sets[used++] = take();
+            now.sets[used++] = take();
+        }
+    }
+    *lent = take_length(used);
+    return take() < 224 ? number : take();
 }
 
 /* Whether a source is in range: not zero, no group's, and of 48 bits. */
@@ -256,6 +293,46 @@ static void judge_box(unsigned call, uint8_t number, int is_short)
     hand_over(frames);
 }
 
+/* The words of a REPORT that was heard, read or written: its number and sets, and zeros. */
+static void judge_sets(const uint64_t *words, const uint8_t *body)
+{
+    size_t used = 1 + taken(body[0], body + 1, CRUSTNEWT_MOST_SETS_OCTETS);
+
+    require(used <= BODY_OCTETS, "sets that run past are refused");
+    for (size_t i = 0; i < BODY_OCTETS; i++)
+        require((words[i / 8] >> (56 - i % 8 * 8) & 0xFF) == (i < used ? body[i] : 0), "a REPORT is its number, its sets and zeros");
+}
+
+/* A report that is done hands out one frame, with what was asked for and zeros; other octets than so many sets are refused. */
+static void judge_report(uint8_t number, uint8_t asked, size_t lent)
+{
+    const uint8_t *body = now.output + BODY_AT;
+    int are_sets = taken(asked, now.sets, lent) == lent && lent <= CRUSTNEWT_MOST_SETS_OCTETS;
+
+    require(number != CRUSTNEWT_DONE || are_sets, "octets that are not so many sets are refused");
+    require(number != CRUSTNEWT_RANGE || !are_sets, "sets that fit are reported");
+    require((number != CRUSTNEWT_DONE && number != CRUSTNEWT_RANGE) || now.box[CRUSTNEWT_BOX_STATE] == CRUSTNEWT_BOX_STATE_REGISTERED,
+            "only a registered box reports");
+    if (number != CRUSTNEWT_DONE)
+        return;
+    require(now.reply[CRUSTNEWT_BOX_REPLY_FRAMES] == 1 && now.reply[CRUSTNEWT_BOX_REPLY_NOTICES] == 0, "a report is one frame");
+    require(body[0] == asked && memcmp(body + 1, now.sets, lent) == 0, "a report has the sets that were asked for");
+    for (size_t i = 1 + lent; i < BODY_OCTETS; i++)
+        require(body[i] == 0, "a report has zeros behind its sets");
+}
+
+static void call_report(void)
+{
+    size_t words = take_length(CRUSTNEWT_BOX_WORDS), octets = take_length(CRUSTNEWT_BOX_FRAMES_OCTETS);
+    size_t told = take_length(CRUSTNEWT_BOX_REPLY_WORDS), lent;
+    uint8_t asked = take_sets(&lent), number;
+
+    before = now;
+    number = crustnewt_box_report(asked, now.sets, lent, now.box, words, now.output, octets, now.reply, told);
+    judge_box(BOX_REPORT, number, words < CRUSTNEWT_BOX_WORDS || octets < CRUSTNEWT_BOX_FRAMES_OCTETS || told < CRUSTNEWT_BOX_REPLY_WORDS);
+    judge_report(number, asked, lent);
+}
+
 static void call_box(unsigned call)
 {
     size_t words = take_length(CRUSTNEWT_BOX_WORDS), octets = take_length(CRUSTNEWT_BOX_FRAMES_OCTETS);
@@ -340,7 +417,12 @@ static void judge_head(unsigned call, uint8_t number, int is_short)
         require_zero(now.head, CRUSTNEWT_HEAD_WORDS, "a refused fresh head is zeros");
     require(number != CRUSTNEWT_DONE || !is_nobodys_head(now.head), "a call leaves a state");
     require(frames <= links, "a head hands out a frame a link at most");
-    require(notices <= 1, "a head tells a notice at most");
+    require(notices <= (call == 17), "a head tells a notice at most, of what it heard");
+    if (notices > 0 && now.reply[CRUSTNEWT_HEAD_REPLY_NOTICE] == CRUSTNEWT_HEAD_NOTICE_REPORT)
+        judge_sets(now.reply + CRUSTNEWT_HEAD_REPLY_SETS, now.heard + BODY_AT);
+    else if (notices > 0)
+        require_zero(now.reply + CRUSTNEWT_HEAD_REPLY_SETS, CRUSTNEWT_HEAD_REPLY_WORDS - CRUSTNEWT_HEAD_REPLY_SETS,
+                     "only a REPORT has sets");
     allow(now.reply, (notices > 0 ? CRUSTNEWT_HEAD_REPLY_WORDS : CRUSTNEWT_HEAD_REPLY_NOTICE) * sizeof *now.reply);
     allow(now.output, (size_t)frames * CRUSTNEWT_FRAME_OCTETS);
     require_kept("a refusal changes nothing, and what isn't used stays");
@@ -451,6 +533,8 @@ static void call_read(void)
         judge_blank();
     else
         require(is_source(now.message[CRUSTNEWT_MESSAGE_SOURCE]), "no message is from a group or nobody");
+    if (number == CRUSTNEWT_DONE && now.message[CRUSTNEWT_MESSAGE_KIND] == CRUSTNEWT_MESSAGE_REPORT)
+        judge_sets(now.message + CRUSTNEWT_MESSAGE_BODY, now.heard + BODY_AT);
 }
 
 static void call_write(void)
@@ -470,6 +554,8 @@ static void call_write(void)
     for (unsigned i = 0; i < CRUSTNEWT_FRAME_OCTETS && number != CRUSTNEWT_DONE; i++)
         require(now.heard[i] == 0, "a refused message is written as zeros");
     require(number != CRUSTNEWT_DONE || is_source(now.message[CRUSTNEWT_MESSAGE_SOURCE]), "no message from a group or nobody is written");
+    if (number == CRUSTNEWT_DONE && now.message[CRUSTNEWT_MESSAGE_KIND] == CRUSTNEWT_MESSAGE_REPORT)
+        judge_sets(now.message + CRUSTNEWT_MESSAGE_BODY, now.heard + BODY_AT);
 }
 
 /* Of the frame to be heard: the writer takes no source that is to be refused. */
@@ -500,6 +586,44 @@ static void spoil(unsigned what)
         set_source(take_address());
 }
 
+/* The box is registered, and the head's first link holds it. */
+static void begin_registered(void)
+{
+    now.box[CRUSTNEWT_BOX_STATE] = CRUSTNEWT_BOX_STATE_REGISTERED;
+    now.box[CRUSTNEWT_BOX_WATCHDOG] = now.links[CRUSTNEWT_LINK_WATCHDOG] = 62500000;
+    now.box[CRUSTNEWT_BOX_REPORT] = now.links[CRUSTNEWT_LINK_PERIODIC] = 3125000;
+    now.links[CRUSTNEWT_LINK_ADDRESS] = now.box[CRUSTNEWT_BOX_ADDRESS];
+    now.links[CRUSTNEWT_LINK_STATE] = CRUSTNEWT_LINK_STATE_REGISTERED;
+}
+
+static void make_call(unsigned call)
+{
+    if (call < 5)
+        call_box(call);
+    else if (call == 5)
+        call_next();
+    else if (call < 10)
+        call_box(call % 2 == 0 ? 4 : 3);
+    else if (call < 20)
+        call_head(call);
+    else if (call == 20)
+        call_read();
+    else if (call == 21)
+        call_write();
+    else if (call < 28)
+        spoil(call - 22);
+    else if (call < 30)
+        call_box(BOX_ADVANCE);
+    else if (call == 30)
+        call_box_until();
+    else if (call == 31)
+        call_head_until();
+    else if (call == 32)
+        spoil(6);
+    else
+        call_report();
+}
+
 int LLVMFuzzerTestOneInput(const uint8_t *octets, size_t length)
 {
     static const size_t tables[] = {1, 2, 3, 64, 65, 0};
@@ -512,31 +636,9 @@ int LLVMFuzzerTestOneInput(const uint8_t *octets, size_t length)
     now.message[CRUSTNEWT_MESSAGE_SOURCE] = 0x020000000001;
     heard_octets = 0;
     links = tables[take() % 6];
-    while (input_left > 0) {
-        unsigned call = take() % 33;
-
-        if (call < 5)
-            call_box(call);
-        else if (call == 5)
-            call_next();
-        else if (call < 10)
-            call_box(call % 2 == 0 ? 4 : 3);
-        else if (call < 20)
-            call_head(call);
-        else if (call == 20)
-            call_read();
-        else if (call == 21)
-            call_write();
-        else if (call < 28)
-            spoil(call - 22);
-        else if (call < 30)
-            call_box(BOX_ADVANCE);
-        else if (call == 30)
-            call_box_until();
-        else if (call == 31)
-            call_head_until();
-        else
-            spoil(6);
-    }
+    if (take() % 2 == 1)
+        begin_registered();
+    while (input_left > 0)
+        make_call(take() % 34);
     return 0;
 }

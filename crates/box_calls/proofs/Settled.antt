@@ -15,6 +15,8 @@ use Rattle.box_calls.proofs.FloorBox.register.Kinds as register-kinds
 use Rattle.box_calls.proofs.FloorBox.register.Reads as register
 use Rattle.box_calls.proofs.FloorBox.deregister.Kinds as deregister-kinds
 use Rattle.box_calls.proofs.FloorBox.deregister.Reads as deregister
+use Rattle.box_calls.proofs.FloorBox.report.Kinds as report-kinds
+use Rattle.box_calls.proofs.FloorBox.report.Reads as report
 use Rattle.box_calls.proofs.FloorBox.hear.Kinds as hear-kinds
 use Rattle.box_calls.proofs.FloorBox.hear.Reads as hear
 use Rattle.box_calls.proofs.FloorBox.tick.Kinds as tick-kinds
@@ -38,6 +40,9 @@ register-settles κs a e x y p q = p ∙ sym q
 
 pub deregister-settles : Settles 0 deregister-kinds.ps deregister-kinds.r deregister.Post
 deregister-settles κs a e x y p q = p ∙ sym q
+
+pub report-settles : Settles 0 report-kinds.ps report-kinds.r report.Post
+report-settles κs a e x y p q = p ∙ sym q
 
 pub hear-settles : Settles 0 hear-kinds.ps hear-kinds.r hear.Post
 hear-settles κs a e x y p q = p ∙ sym q

@@ -1,4 +1,4 @@
--- Rules R68, R73, R90 to R93, R113, R136: a sound box, a fresh one, the client's two requests, and a tick.
+-- Rules R68, R73, R90 to R93, R113, R136, R242, R243: a sound box, a fresh one, what its client asks, and a tick.
 -- Assumes nothing.
 use mathlib.Core.Bool.{Bool, cond, _&&_}
 use mathlib.Core.List.{[], _∷_}
@@ -6,10 +6,13 @@ use lib.IntN.{pos}
 use Rattle.frame.specs.Card.{_unless_, given}
 use Rattle.frame.specs.declared.Address.{Address}
 use Rattle.frame.specs.declared.Reply.the-variants.{Done, Range, State, Unsound, Window}
+use Rattle.frame_queues.specs.Queues.{fitsSets}
+use Rattle.frame_queues.specs.declared.Sets.{Sets}
 use Rattle.frame_range.specs.Fits.{isIndividual}
 use Rattle.box_registration.specs.Registration.{registering, isWaiting, isRegistered}
 use Rattle.box_processes.specs.Leaving.{localDeregister}
 use Rattle.box_processes.specs.Parts.{fresh, withRegistration, still}
+use Rattle.box_processes.specs.Reporting.{reporting}
 use Rattle.box_processes.specs.Sound.{soundOf as processesSound}
 use Rattle.box_ticking.specs.Tick.{tickOf as processesTick}
 use Rattle.box_calls.specs.Answer.{bare, refused, accepted}
@@ -46,6 +49,17 @@ deregisterOf b =
     ∷ State unless isRegistered (p .registration .state)
     ∷ [])
     (refused b) (accepted b (pos 0) (localDeregister p))
+
+-- R242, R243
+unfoldable pub reportOf : Sets → FloorBox → Answer
+reportOf sets b =
+    let p = b .processes in
+    given
+    (Unsound unless soundOf b
+    ∷ State unless isRegistered (p .registration .state)
+    ∷ Range unless fitsSets sets
+    ∷ [])
+    (refused b) (accepted b (pos 0) (reporting p sets))
 
 -- R113, R136
 unfoldable pub tickOf : FloorBox → Answer

@@ -24,7 +24,7 @@ abbrev pub isDiscovery : Body → Bool
 isDiscovery (Gate grants) = false
 isDiscovery (Discovery grant sync) = true
 isDiscovery (Register port flag sync pending) = false
-isDiscovery Report = false
+isDiscovery (Report sets) = false
 isDiscovery (RegisterReq flag pending) = false
 isDiscovery (RegisterAck flag port sync) = false
 

@@ -3,7 +3,7 @@ ghost use mathlib.Core.Path.{_≡_};
 ghost use Rattle.frame.specs.declared.Reply.the-variants.{Done};
 ghost use Rattle.box_calls.specs.Answer.{bare, refused, messageOf, framed, accepted};
 ghost use Rattle.frame_writer.specs.Write.{writeOf};
-ghost use Rattle.box_calls.specs.Box.{soundOf, freshOf, registerOf, deregisterOf, tickOf};
+ghost use Rattle.box_calls.specs.Box.{soundOf, freshOf, registerOf, deregisterOf, reportOf, tickOf};
 ghost use Rattle.laws.specs.Ticks.{ticks};
 ghost use Rattle.box_calls.specs.Advance.{isDone, isSilent, again, out, advanceOf};
 ghost use Rattle.box_calls.specs.Leap.{passedOf, leapOf};
@@ -21,6 +21,7 @@ use frame::Address;
 use frame::Body;
 use frame::Message;
 use frame::Reply;
+use frame_queues::Sets;
 
 pub struct FloorBox {
     pub address: Address,
@@ -200,6 +201,24 @@ impl FloorBox {
         self.accepted(0, Step::local_deregister(processes))
     }
 
+    // The client asks for a REPORT with these queue sets.
+    pub fn report(self, sets: Sets) -> Answer
+        ensures { λ r. ⌜ r ≡ reportOf sets self ⌝ }
+    {
+        let processes = self.processes;
+        let registration = processes.registration;
+        if !self.sound() {
+            return self.refused(Reply::Unsound);
+        }
+        if !registration.is_registered() {
+            return self.refused(Reply::State);
+        }
+        if !sets.fits() {
+            return self.refused(Reply::Range);
+        }
+        self.accepted(0, Step::reporting(processes, sets))
+    }
+
     // A message, with the caller's random number.
     pub fn hear(self, message: Message, random: u32) -> Answer
         ensures { λ r. ⌜ r ≡ hearOf self message random ⌝ }
@@ -368,7 +387,7 @@ fn is_discovery(body: Body) -> bool
     match body {
         Body::Gate(_) => false,
         Body::Discovery { grant: _, sync: _ } => true,
-        Body::Report => false,
+        Body::Report(_) => false,
         Body::RegisterReq {
             flag: _,
             pending: _,

@@ -17,6 +17,6 @@ hearOf (Gate grants) p own random = gated p (listed grants)
 hearOf (Discovery grant sync) p own random = still (discover p grant sync own random)
 hearOf (Register port flag sync pending) p own random = registerOf (p .registration .state) flag p port sync
 -- R102: never accepted
-hearOf Report p own random = still p
+hearOf (Report sets) p own random = still p
 hearOf (RegisterReq flag pending) p own random = still p
 hearOf (RegisterAck flag port sync) p own random = still p

@@ -4,6 +4,7 @@ use Prim.Native.Nat.{ℕ}
 use mathlib.Core.Bool.{true}
 use mathlib.Core.List.{[], _∷_}
 use Rattle.clock.specs.declared.Quanta.{Quanta}
+use Rattle.frame_queues.specs.Queues.{noSets}
 use Rattle.frame.specs.declared.Body.the-variants.{Report, RegisterAck}
 use Rattle.frame.specs.declared.RegisterAckFlag.{RegisterAckFlag}
 use Rattle.frame.specs.declared.RegisterFlag.{RegisterFlag}
@@ -26,7 +27,7 @@ admitted p port sync =
       next = withRegistration p (registered port sync);
       notices = noticesOf (Notice.Registered ∷ []);
       first = Sent.Is (RegisterAck RegisterAckFlag.Ack port sync);
-      second = Sent.Is Report;
+      second = Sent.Is (Report noSets);
     }
 
 -- R115, R116

@@ -24,6 +24,7 @@ use frame::Grant;
 use frame::Grants;
 use frame::RegisterAckFlag;
 use frame::RegisterFlag;
+use frame_queues::Sets;
 
 // A list on its way through a GATE, and what is told of it.
 struct Taking {
@@ -131,7 +132,7 @@ fn admitted(p: Processes, port: u16, sync: Quanta) -> Step
         next: p.with_registration(registration.registered(port, sync)),
         notices: none.and(Notice::Registered),
         first: Sent::Is(ack),
-        second: Sent::Is(Body::Report),
+        second: Sent::Is(Body::Report(Sets::NONE)),
     }
 }
 
@@ -227,7 +228,7 @@ pub fn hear(p: Processes, body: Body, own: bool, random: u32) -> Step
     match body {
         Body::Gate(grants) => gate(p, grants),
         Body::Discovery { grant, sync } => Step::still(discover(p, grant, sync, own, random)),
-        Body::Report => Step::still(p),
+        Body::Report(_) => Step::still(p),
         Body::RegisterReq {
             flag: _,
             pending: _,

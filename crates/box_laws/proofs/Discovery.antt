@@ -24,7 +24,7 @@ step-keeps : (body : Body) (p : Processes) (own : Bool) (random : ℕ) → isDis
     → processesHear body p own random .next .registration ≡ p .registration
 step-keeps (Discovery grant sync) p own random h = discovery-keeps p grant sync own random
 step-keeps (Gate grants) p own random h = absurd (false≢true h)
-step-keeps Report p own random h = absurd (false≢true h)
+step-keeps (Report sets) p own random h = absurd (false≢true h)
 step-keeps (RegisterReq flag pending) p own random h = absurd (false≢true h)
 step-keeps (Register port flag sync pending) p own random h = absurd (false≢true h)
 step-keeps (RegisterAck flag port sync) p own random h = absurd (false≢true h)

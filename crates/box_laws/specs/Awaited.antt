@@ -203,6 +203,6 @@ pub hear-calm : (body : Body) (p : Processes) (own : Bool) (random : ℕ) → Ca
 hear-calm (Gate grants) p own random h = gated-calm p (listed grants) h
 hear-calm (Discovery grant sync) p own random h = discover-calm p grant sync own random h
 hear-calm (Register port flag sync pending) p own random h = register-calm (p .registration .state) flag p port sync refl h
-hear-calm Report p own random h = h
+hear-calm (Report sets) p own random h = h
 hear-calm (Request flag pending) p own random h = h
 hear-calm (RegisterAck flag port sync) p own random h = h

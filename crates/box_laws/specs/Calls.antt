@@ -14,24 +14,30 @@ use Rattle.frame.specs.Tests.{Passed, Each, given-either}
 use Rattle.frame.specs.Ways.{goesToHead}
 use Rattle.frame.specs.declared.Reply.{Reply}
 use Rattle.frame.specs.declared.Reply.the-variants.{Done, Range, Direction, State, Party, Unsound, Window}
+use Rattle.frame_queues.specs.Queues.{fitsSets}
 use Rattle.frame_range.specs.Fits.{fitsMessage}
 use Rattle.box_registration.specs.Registration.{registering, isWaiting, isRegistered}
 use Rattle.box_processes.specs.Leaving.{localDeregister}
 use Rattle.box_processes.specs.Parts.{withCount, withRegistration, still}
+use Rattle.box_processes.specs.Reporting.{reporting}
 use Rattle.box_processes.specs.declared.Step.{Step}
 use Rattle.box_ticking.specs.Tick.{tickOf as processesTick}
 use Rattle.box_hearing.specs.Hear.{hearOf as processesHear}
 use Rattle.box_calls.specs.Answer.{refused, accepted}
-use Rattle.box_calls.specs.Box.{soundOf, registerOf, deregisterOf, tickOf}
+use Rattle.box_calls.specs.Box.{soundOf, registerOf, deregisterOf, reportOf, tickOf}
 use Rattle.box_calls.specs.Hear.{isFor, heardOf, hearOf}
 use Rattle.box_calls.specs.declared.Answer.{Answer}
 use Rattle.box_calls.specs.declared.FloorBox.{FloorBox}
-use Rattle.box_laws.specs.Stated.{Call, register, deregister, hear, tick, answer, Unchanged}
+use Rattle.box_laws.specs.Stated.{Call, register, deregister, report, hear, tick, answer, Unchanged}
 
 -- the tests of a call after that of the box, in order
 abbrev pub tests : Call → FloorBox → List Test
 tests register b = State unless isWaiting (b .processes .registration .state) ∷ []
 tests deregister b = State unless isRegistered (b .processes .registration .state) ∷ []
+tests (report sets) b =
+    State unless isRegistered (b .processes .registration .state)
+    ∷ Range unless fitsSets sets
+    ∷ []
 tests (hear m random) b =
     Direction unless not (goesToHead (m .body))
     ∷ Party unless isFor b (m .destination) (m .body)
@@ -43,6 +49,7 @@ tests tick b = Window unless processesTick (b .processes) .ok ∷ []
 abbrev pub step : Call → FloorBox → Step
 step register b = still (withRegistration (b .processes) (registering (b .processes .registration)))
 step deregister b = localDeregister (b .processes)
+step (report sets) b = reporting (b .processes) sets
 step (hear m random) b =
     processesHear (m .body) (withCount (b .processes) (m .timestamp)) (eqb (m .destination .0) (b .address .0)) random
 step tick b = processesTick (b .processes)
@@ -50,13 +57,15 @@ step tick b = processesTick (b .processes)
 abbrev pub drift : Call → FloorBox → ℤ
 drift register b = pos 0
 drift deregister b = pos 0
+drift (report sets) b = pos 0
 drift (hear m random) b = driftOf (b .processes .count .0) (m .timestamp .0)
 drift tick b = pos 0
 
 answer-is : (c : Call) (b : FloorBox) → answer c b ≡ given (Unsound unless soundOf b ∷ tests c b) (refused b) (accepted b (drift c b) (step c b))
-unfolding registerOf deregisterOf heardOf hearOf tickOf
+unfolding registerOf deregisterOf reportOf heardOf hearOf tickOf
 answer-is register b = refl
 answer-is deregister b = refl
+answer-is (report sets) b = refl
 answer-is (hear m random) b = refl
 answer-is tick b = refl
 
@@ -67,6 +76,7 @@ Other r = (numberOf r ≢ 0) × (numberOf r ≢ 13)
 tests-other : (c : Call) (b : FloorBox) → Each Other (tests c b)
 tests-other register b = omega arith
 tests-other deregister b = omega arith
+tests-other (report sets) b = omega arith
 tests-other (hear m random) b = omega arith
 tests-other tick b = omega arith
 

@@ -8,6 +8,7 @@ use lib.Dec.{eqb}
 use lib.IntN.{ℤ}
 use Rattle.clock.specs.Counts.{nextOf}
 use Rattle.clock.specs.declared.Count.{Count}
+use Rattle.frame_queues.specs.Laws.{sets-fit}
 use Rattle.frame.specs.Layout.{encode}
 use Rattle.frame.specs.Range.{BodyFits, Valid}
 use Rattle.frame.specs.Tests.{Passed}
@@ -29,19 +30,21 @@ use Rattle.box_calls.specs.Answer.{messageOf, framed, accepted}
 use Rattle.box_calls.specs.Box.{soundOf}
 use Rattle.box_calls.specs.declared.FloorBox.{FloorBox}
 use Rattle.box_laws.specs.Calls.{tests, step, drift, call-accepted}
-use Rattle.box_laws.specs.Stated.{Call, register, deregister, hear, tick, answer, CallTyped}
+use Rattle.box_laws.specs.Stated.{Call, register, deregister, report, hear, tick, answer, CallTyped}
 use Rattle.box_laws.specs.Sends.{SentFits, Sends, tick-sends, hear-sends}
 
 -- the count after a call, before activation
 abbrev pub countAfter : Call → FloorBox → Count
 countAfter register b = b .processes .count
 countAfter deregister b = b .processes .count
+countAfter (report sets) b = b .processes .count
 countAfter (hear m random) b = m .timestamp
 countAfter tick b = nextOf (b .processes .count)
 
 pub step-sends : (c : Call) (b : FloorBox) → CallTyped c → Passed (tests c b) → Sends (countAfter c b) (step c b)
 step-sends register b t h = record { count = refl; first = tt; second = tt }
 step-sends deregister b t h = record { count = refl; first = omega arith; second = tt }
+step-sends (report sets) b t h = record { count = refl; first = sets-fit sets t (h .1 .0); second = tt }
 step-sends (hear m random) b t h =
     hear-sends (m .body) (withCount (b .processes) (m .timestamp)) (eqb (m .destination .0) (b .address .0)) random (valid-of m t (h .1 .1 .0) .body)
 step-sends tick b t h = tick-sends (b .processes)
@@ -50,6 +53,7 @@ count-below : (c : Call) (b : FloorBox) → CallTyped c → b .processes .count 
 unfolding nextOf
 count-below register b t h = h
 count-below deregister b t h = h
+count-below (report sets) b t h = h
 count-below (hear m random) b t h = t .0
 count-below tick b t h = omega arith
 

@@ -111,6 +111,6 @@ hear-keeps (Gate grants) p own random s h = gated-keeps p (listed grants) s h
 hear-keeps (Discovery grant sync) p own random s h =
     discover-keeps p grant sync own random s (and-eq-true-iff (fitsGrant grant) (fits sync) .0 h .0)
 hear-keeps (Register port flag sync pending) p own random s h = register-keeps (p .registration .state) flag p port sync s refl h
-hear-keeps Report p own random s h = s
+hear-keeps (Report sets) p own random s h = s
 hear-keeps (Request flag pending) p own random s h = s
 hear-keeps (RegisterAck flag port sync) p own random s h = s

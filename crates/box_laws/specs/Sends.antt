@@ -10,6 +10,7 @@ use Rattle.clock.specs.Counts.{nextOf}
 use Rattle.clock.specs.Numbers.{startInRange, serves}
 use Rattle.clock.specs.declared.Count.{Count}
 use Rattle.clock.specs.declared.Quanta.{Quanta}
+use Rattle.frame_queues.specs.Laws.{none-fit}
 use Rattle.frame.specs.Layout.{listed}
 use Rattle.frame.specs.Range.{BodyFits}
 use Rattle.frame.specs.declared.Body.{Body}
@@ -53,7 +54,7 @@ ring-sends : (bell : Bell) (p : Processes) → (ring bell p .next .count ≡ p .
 ring-sends Bell.Quiet p = (refl, tt)
 ring-sends Bell.Retry p = (refl, tt)
 ring-sends Bell.Lost p = (refl, omega arith)
-ring-sends Bell.Report p = (refl, tt)
+ring-sends Bell.Report p = (refl, none-fit)
 
 timed-sends : (p : Processes) → (timed p .next .count ≡ nextOf (p .count)) × SentFits (timed p .sent)
 unfolding timed
@@ -99,11 +100,11 @@ discover-count p grant sync own random =
 
 register-sends : (t : State) (flag : RegisterFlag) (p : Processes) (port : ℕ) (sync : Quanta) → port < 2 ^ 16 → sync .0 < 2 ^ 16
     → Sends (p .count) (registerOf t flag p port sync)
-register-sends RegisterReq Ack p port sync h k = record { count = refl; first = (h, k); second = tt }
+register-sends RegisterReq Ack p port sync h k = record { count = refl; first = (h, k); second = none-fit }
 register-sends RegisterReq Nack p port sync h k = record { count = refl; first = (h, k); second = tt }
 register-sends RegisterReq Reregister p port sync h k = record { count = refl; first = tt; second = tt }
 register-sends RegisterReq Deregister p port sync h k = record { count = refl; first = tt; second = tt }
-register-sends Registered Reregister p port sync h k = record { count = refl; first = (h, k); second = tt }
+register-sends Registered Reregister p port sync h k = record { count = refl; first = (h, k); second = none-fit }
 register-sends Registered Deregister p port sync h k = record { count = refl; first = tt; second = tt }
 register-sends Registered Ack p port sync h k = record { count = refl; first = tt; second = tt }
 register-sends Registered Nack p port sync h k = record { count = refl; first = tt; second = tt }
@@ -114,6 +115,6 @@ pub hear-sends : (body : Body) (p : Processes) (own : Bool) (random : ℕ) → B
 hear-sends (Gate grants) p own random h = gated-sends p (listed grants)
 hear-sends (Discovery grant sync) p own random h = record { count = discover-count p grant sync own random; first = tt; second = tt }
 hear-sends (Register port flag sync pending) p own random h = register-sends (p .registration .state) flag p port sync (h .0) (h .1)
-hear-sends Report p own random h = record { count = refl; first = tt; second = tt }
+hear-sends (Report sets) p own random h = record { count = refl; first = tt; second = tt }
 hear-sends (Request flag pending) p own random h = record { count = refl; first = tt; second = tt }
 hear-sends (RegisterAck flag port sync) p own random h = record { count = refl; first = tt; second = tt }

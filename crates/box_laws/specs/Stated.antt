@@ -4,12 +4,14 @@ use Prim.Native.Nat.{ℕ}
 use mathlib.Core.Path.{_≡_}
 use lib.IntN.{pos}
 use mathlib.Core.Bool.{true}
+use Rattle.frame_queues.specs.Queues.{SetsTyped}
+use Rattle.frame_queues.specs.declared.Sets.{Sets}
 use Rattle.frame.specs.Range.{Typed}
 use Rattle.frame.specs.declared.Address.{Address}
 use Rattle.frame.specs.declared.Message.{Message}
 use Rattle.frame_range.specs.Fits.{isIndividual}
 use Rattle.box_telling.specs.Told.{noNotices, noFrames}
-use Rattle.box_calls.specs.Box.{registerOf, deregisterOf, tickOf, freshOf}
+use Rattle.box_calls.specs.Box.{registerOf, deregisterOf, reportOf, tickOf, freshOf}
 use Rattle.box_calls.specs.Hear.{hearOf}
 use Rattle.box_calls.specs.declared.Answer.{Answer}
 use Rattle.box_calls.specs.declared.FloorBox.{FloorBox}
@@ -18,12 +20,14 @@ use Rattle.box_calls.specs.declared.FloorBox.{FloorBox}
 pub data Call : Type 0 where
   register : Call
   deregister : Call
+  report : Sets → Call
   hear : Message → ℕ → Call
   tick : Call
 
 abbrev pub answer : Call → FloorBox → Answer
 answer register b = registerOf b
 answer deregister b = deregisterOf b
+answer (report sets) b = reportOf sets b
 answer (hear m random) b = hearOf b m random
 answer tick b = tickOf b
 
@@ -31,6 +35,7 @@ answer tick b = tickOf b
 abbrev pub CallTyped : Call → Type 0
 CallTyped register = Unit {0}
 CallTyped deregister = Unit {0}
+CallTyped (report sets) = SetsTyped sets
 CallTyped (hear m random) = Typed m
 CallTyped tick = Unit {0}
 

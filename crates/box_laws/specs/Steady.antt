@@ -5,6 +5,8 @@ use mathlib.Core.Bool.{true}
 use lib.Dec.{eqb}
 use Rattle.frame.specs.Tests.{Passed}
 use Rattle.frame_range.specs.Laws.{message-parts}
+use Rattle.box_registration.specs.Laws.{reported-keeps}
+use Rattle.box_registration.specs.Registration.{reported}
 use Rattle.box_registration.specs.declared.State.the-variants.{Registering}
 use Rattle.box_processes.specs.Parts.{fresh, withCount}
 use Rattle.box_processes.specs.declared.Processes.{Processes}
@@ -16,15 +18,18 @@ use Rattle.box_calls.specs.declared.FloorBox.{FloorBox}
 use Rattle.box_laws.specs.Activation.{activate-keeps}
 use Rattle.box_laws.specs.Awaited.{Calm, any-awaited, activate-calm, tick-calm, hear-calm}
 use Rattle.box_laws.specs.Calls.{tests, step, Outcome, unsound, refuses, accepts, outcome}
-use Rattle.box_laws.specs.Stated.{Call, register, deregister, hear, tick, answer}
+use Rattle.box_laws.specs.Stated.{Call, register, deregister, report, hear, tick, answer}
 use Rattle.box_laws.specs.Hear.{hear-keeps}
-use Rattle.box_laws.specs.Sound.{Sound, fresh-sound, count-keeps, registering-keeps, waiting-keeps}
+use Rattle.box_laws.specs.Sound.{Sound, fresh-sound, count-keeps, renewed, registering-keeps, waiting-keeps}
 use Rattle.box_laws.specs.Tick.{tick-keeps}
 
 -- the step of a call
 step-keeps : (c : Call) (b : FloorBox) → Sound (b .processes) → Passed (tests c b) → Sound (step c b .next)
 step-keeps register b s h = registering-keeps (b .processes) s (h .0)
 step-keeps deregister b s h = waiting-keeps (b .processes) s
+step-keeps (report sets) b s h =
+    let r = b .processes .registration in
+    renewed (b .processes) s (reported r) (reported-keeps r (h .0) (s .registration)) refl
 step-keeps (hear m random) b s h =
     hear-keeps (m .body) (withCount (b .processes) (m .timestamp)) (eqb (m .destination .0) (b .address .0)) random
     (count-keeps (b .processes) s (m .timestamp)) (message-parts m (h .1 .1 .0) .2)
@@ -33,6 +38,7 @@ step-keeps tick b s h = tick-keeps (b .processes) s (h .0)
 step-calm : (c : Call) (b : FloorBox) → Calm (b .processes) → Calm (step c b .next)
 step-calm register b s = any-awaited (b .processes .light) Registering refl
 step-calm deregister b s = tt
+step-calm (report sets) b s = s
 step-calm (hear m random) b s =
     hear-calm (m .body) (withCount (b .processes) (m .timestamp)) (eqb (m .destination .0) (b .address .0)) random s
 step-calm tick b s = tick-calm (b .processes) s .1

@@ -20,6 +20,8 @@ use Rattle.box_processes.proofs.Step.still.Kinds as still-kinds
 use Rattle.box_processes.proofs.Step.still.Reads as still
 use Rattle.box_processes.proofs.Step.local_deregister.Kinds as local-deregister-kinds
 use Rattle.box_processes.proofs.Step.local_deregister.Reads as local-deregister
+use Rattle.box_processes.proofs.Step.reporting.Kinds as reporting-kinds
+use Rattle.box_processes.proofs.Step.reporting.Reads as reporting
 use Rattle.box_processes.proofs.farewell.Kinds as farewell-kinds
 use Rattle.box_processes.proofs.farewell.Reads as farewell
 use Rattle.box_processes.proofs.Processes.quiet.Kinds as quiet-kinds
@@ -53,6 +55,9 @@ still-settles κs a e x y p q = p ∙ sym q
 
 pub local-deregister-settles : Settles 0 local-deregister-kinds.ps local-deregister-kinds.r local-deregister.Post
 local-deregister-settles κs a e x y p q = p ∙ sym q
+
+pub reporting-settles : Settles 0 reporting-kinds.ps reporting-kinds.r reporting.Post
+reporting-settles κs a e x y p q = p ∙ sym q
 
 pub farewell-settles : Settles 0 farewell-kinds.ps farewell-kinds.r farewell.Post
 farewell-settles κs a e x y p q = p ∙ sym q

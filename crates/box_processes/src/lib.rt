@@ -3,6 +3,7 @@ ghost use mathlib.Core.Path.{_≡_};
 ghost use Rattle.box_processes.specs.Leaving.{farewell, localDeregister};
 ghost use Rattle.box_processes.specs.Parts.{fresh, withCount, withRegistration, withList, withLight, waiting, still};
 ghost use Rattle.box_processes.specs.Pass.{activates, passedOf, quietOf};
+ghost use Rattle.box_processes.specs.Reporting.{reporting};
 ghost use Rattle.box_processes.specs.Sound.{restsIn, soundOf};
 use box_grants::GrantList;
 use box_light::Light;
@@ -14,6 +15,7 @@ use box_telling::Sent;
 use clock::Count;
 use frame::Body;
 use frame::RegisterReqFlag;
+use frame_queues::Sets;
 
 pub struct Processes {
     pub count: Count,
@@ -214,6 +216,19 @@ impl Step {
             next: p.waiting(),
             notices: none.and(Notice::Deregistered),
             first: farewell(),
+            second: Sent::Nothing,
+        }
+    }
+
+    pub fn reporting(p: Processes, sets: Sets) -> Step
+        ensures { λ r. ⌜ r ≡ reporting p sets ⌝ }
+    {
+        let registration = p.registration;
+        Step {
+            ok: true,
+            next: p.with_registration(registration.reported()),
+            notices: Notices::none(),
+            first: Sent::Is(Body::Report(sets)),
             second: Sent::Nothing,
         }
     }

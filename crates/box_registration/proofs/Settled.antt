@@ -14,6 +14,8 @@ use Rattle.box_registration.proofs.Registration.registered.Kinds as reg
 use Rattle.box_registration.proofs.Registration.registered.Reads as registered
 use Rattle.box_registration.proofs.Registration.heard.Kinds as heard-kinds
 use Rattle.box_registration.proofs.Registration.heard.Reads as heard
+use Rattle.box_registration.proofs.Registration.reported.Kinds as reported-kinds
+use Rattle.box_registration.proofs.Registration.reported.Reads as reported
 use Rattle.box_registration.proofs.Registration.is_registered.Kinds as is-registered-kinds
 use Rattle.box_registration.proofs.Registration.is_registered.Reads as is-registered
 use Rattle.box_registration.proofs.Registration.is_registering.Kinds as is-registering-kinds
@@ -46,6 +48,9 @@ registered-settles κs a e x y p q = p ∙ sym q
 
 pub heard-settles : Settles 0 heard-kinds.ps heard-kinds.r heard.Post
 heard-settles κs a e x y p q = p ∙ sym q
+
+pub reported-settles : Settles 0 reported-kinds.ps reported-kinds.r reported.Post
+reported-settles κs a e x y p q = p ∙ sym q
 
 pub is-registered-settles : Settles 0 is-registered-kinds.ps is-registered-kinds.r is-registered.Post
 is-registered-settles κs a e x y p q = p ∙ sym q

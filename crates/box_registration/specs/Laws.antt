@@ -10,7 +10,7 @@ use Rattle.clock.specs.Laws.{ticked-runs, ticked-quiet, passed-off, passed-join
 use Rattle.clock.specs.Numbers.{watchdog, periodic, wait}
 use Rattle.clock.specs.Timers.{off, runs, ticked, quietOf as timerQuiet}
 use Rattle.clock.specs.declared.Quanta.{Quanta}
-use Rattle.box_registration.specs.Registration.{fresh, waiting, registering, requesting, registered, heard, isRegistered}
+use Rattle.box_registration.specs.Registration.{fresh, waiting, registering, requesting, registered, heard, reported, isRegistered}
 use Rattle.box_registration.specs.Pass.{passedOf, quietOf}
 use Rattle.box_registration.specs.Sound.{soundIn, soundOf}
 use Rattle.box_registration.specs.Tick.{tickWait, tickReport, tickWatchdog, tickIn, tickOf}
@@ -99,21 +99,31 @@ tick-keeps r h =
     let p = sound-parts r h in
     keeps (r .state) r (p .0) (p .1)
 
--- a normal GATE in REGISTERED keeps it too
-heard-in : (s : State) (r : Registration) → isRegistered s ≡ true → soundIn s r ≡ true → soundIn s (heard r) ≡ true
-unfolding runs
-heard-in Wait r i h = absurd (false≢true i)
-heard-in Registering r i h = absurd (false≢true i)
-heard-in RegisterReq r i h = absurd (false≢true i)
-heard-in Registered r i h =
+-- in REGISTERED watchdog and report timer may be other ones that run
+renewed-in : (s : State) (r t : Registration) → isRegistered s ≡ true → soundIn s r ≡ true
+    → (runs (r .watchdog) watchdog ≡ true → runs (r .report) periodic ≡ true
+    → (t .wait ≡ r .wait) × (runs (t .watchdog) watchdog ≡ true) × (runs (t .report) periodic ≡ true))
+    → soundIn s t ≡ true
+renewed-in Wait r t i h f = absurd (false≢true i)
+renewed-in Registering r t i h f = absurd (false≢true i)
+renewed-in RegisterReq r t i h f = absurd (false≢true i)
+renewed-in Registered r t i h f =
     let p = parts (off (r .wait)) (runs (r .watchdog) watchdog) (runs (r .report) periodic) h in
-    rw (p .0, p .2)
+    let n = f (p .1) (p .2) in
+    rw (n .0, p .0, n .1, n .2)
 
+-- so a normal GATE keeps it sound, and a REPORT that is asked for
 pub heard-keeps : (r : Registration) → isRegistered (r .state) ≡ true → soundOf r ≡ true → soundOf (heard r) ≡ true
-unfolding soundOf
+unfolding soundOf runs
 heard-keeps r i h =
     let p = sound-parts r h in
-    rw (heard-in (r .state) r i (p .0), p .1)
+    rw (renewed-in (r .state) r (heard r) i (p .0) (λ d n. (refl, refl, n)), p .1)
+
+pub reported-keeps : (r : Registration) → isRegistered (r .state) ≡ true → soundOf r ≡ true → soundOf (reported r) ≡ true
+unfolding soundOf runs
+reported-keeps r i h =
+    let p = sound-parts r h in
+    rw (renewed-in (r .state) r (reported r) i (p .0) (λ d n. (refl, d, refl)), p .1)
 
 -- a quiet tick is quiet for each timer
 quiet-parts : (r : Registration) → 1 ≤ quietOf r

@@ -1,4 +1,4 @@
--- Rules R88 to R90, R95, R97, R111, R114, R122: the states of a registration, and what entering one does.
+-- Rules R88 to R90, R95, R97, R111, R114, R122, R242: the states of a registration, and what entering one does.
 -- Assumes nothing.
 use Prim.Native.Nat.{ℕ}
 use mathlib.Core.Bool.{Bool, true, false}
@@ -43,6 +43,11 @@ registered port sync =
 abbrev pub heard : Registration → Registration
 heard r =
     record { state = r .state; wait = r .wait; watchdog = record { left = watchdog }; report = r .report; port = r .port; sync = r .sync }
+
+-- R242
+abbrev pub reported : Registration → Registration
+reported r =
+    record { state = r .state; wait = r .wait; watchdog = r .watchdog; report = record { left = periodic }; port = r .port; sync = r .sync }
 
 abbrev pub isWaiting : State → Bool
 isWaiting Wait = true

@@ -1,6 +1,6 @@
 // The box's registration: its state, the timers that the state runs, and what a REGISTER gave it.
 ghost use mathlib.Core.Path.{_≡_};
-ghost use Rattle.box_registration.specs.Registration.{fresh, entering, waiting, registering, requesting, registered, heard, isWaiting, isRegistered, isRegistering};
+ghost use Rattle.box_registration.specs.Registration.{fresh, entering, waiting, registering, requesting, registered, heard, reported, isWaiting, isRegistered, isRegistering};
 ghost use Rattle.box_registration.specs.Pass.{passedOf, quietOf};
 ghost use Rattle.box_registration.specs.Tick.{tickWait, tickReport, tickWatchdog, tickOf};
 ghost use Rattle.box_registration.specs.Sound.{soundIn, soundOf};
@@ -115,6 +115,17 @@ impl Registration {
         let again = watchdog.start(Timer::WATCHDOG);
         let mut next = self;
         next.watchdog = again;
+        next
+    }
+
+    // A REPORT that is asked for restarts the report timer, and it alone.
+    pub fn reported(self) -> Registration
+        ensures { λ r. ⌜ r ≡ reported self ⌝ }
+    {
+        let report = self.report;
+        let again = report.start(Timer::PERIODIC);
+        let mut next = self;
+        next.report = again;
         next
     }
 

@@ -3,6 +3,7 @@
 use mathlib.Core.Bool.{true}
 use mathlib.Core.List.{[], _∷_}
 use Rattle.clock.specs.Counts.{nextOf}
+use Rattle.frame_queues.specs.Queues.{noSets}
 use Rattle.frame.specs.declared.Body.the-variants.{Report, RegisterReq}
 use Rattle.frame.specs.declared.RegisterReqFlag.{RegisterReqFlag}
 use Rattle.box_grants.specs.Activation.{room}
@@ -31,7 +32,7 @@ ring Bell.Retry p = told p Notice.Retry Sent.Nothing
 -- R137
 ring Bell.Lost p = told (waiting p) Notice.Deregistered farewell
 -- R138
-ring Bell.Report p = told p Notice.Nothing (Sent.Is Report)
+ring Bell.Report p = told p Notice.Nothing (Sent.Is (Report noSets))
 
 abbrev pub shine : Beam → Processes → Stage
 shine Beam.Quiet p = told p Notice.Nothing Sent.Nothing

@@ -12,6 +12,7 @@ use box_telling::Notices;
 use box_telling::Sent;
 use frame::Body;
 use frame::RegisterReqFlag;
+use frame_queues::Sets;
 
 // The processes on their way through a tick, and what this stage tells and sends.
 pub struct Stage {
@@ -39,7 +40,7 @@ fn ring(p: Processes, bell: Bell) -> Stage
         Bell::Quiet => told(p, Notice::Nothing, Sent::Nothing),
         Bell::Retry => told(p, Notice::Retry, Sent::Nothing),
         Bell::Lost => told(p.waiting(), Notice::Deregistered, box_processes::farewell()),
-        Bell::Report => told(p, Notice::Nothing, Sent::Is(Body::Report)),
+        Bell::Report => told(p, Notice::Nothing, Sent::Is(Body::Report(Sets::NONE))),
     }
 }
 

@@ -4,7 +4,8 @@ ghost use Rattle.face_box_calls.specs.Calls.{left, heardOf, freshCall, boxCall,
 ghost use Rattle.face_box_pass.specs.Block.{untilCall};
 ghost use Rattle.face_frame_read.specs.Read.{readLeft, readCall};
 ghost use Rattle.face_frame_write.specs.Write.{writeLeft, writeCall};
-ghost use Rattle.box_calls.specs.Box.{registerOf, deregisterOf, tickOf};
+ghost use Rattle.box_calls.specs.Box.{registerOf, deregisterOf, reportOf, tickOf};
+ghost use Rattle.frame_queues.specs.Asked.{askedOf as setsAsked};
 ghost use Rattle.face_head_calls.specs.Calls.{left as headLeft, begunLeft, servedOf, heardOf as headHeard, begunOf, advanceLeft as headAdvanceLeft, advanceCall as headAdvance};
 ghost use Rattle.face_head_pass.specs.Quiet.{untilCall as headUntil};
 ghost use Rattle.face_head_calls.specs.Gate.{askedOf};
@@ -49,6 +50,20 @@ pub extern "C" fn crustnewt_box_deregister(
     ensures { λ r. ⌜ left r (now (block .exit)) (now (frames .exit)) (now (reply .exit)) ≡ boxCall deregisterOf (now (block .entry)) (now (frames .entry)) (now (reply .entry)) ⌝ }
 {
     face_box_calls::deregister(block, frames, reply)
+}
+
+// The client asks for a REPORT: so many queue sets, and their octets.
+#[no_mangle]
+pub extern "C" fn crustnewt_box_report(
+    number: u8,
+    sets: &[u8],
+    block: &mut [u64],
+    frames: &mut [u8],
+    reply: &mut [u64],
+) -> u8
+    ensures { λ r. ⌜ left r (now (block .exit)) (now (frames .exit)) (now (reply .exit)) ≡ boxCall (reportOf (setsAsked number (now (sets .entry)))) (now (block .entry)) (now (frames .entry)) (now (reply .entry)) ⌝ }
+{
+    face_box_calls::report(number, sets, block, frames, reply)
 }
 
 // The octets of a frame that came, read and heard, with the caller's random number.

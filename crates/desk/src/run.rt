@@ -45,7 +45,7 @@ fn serve(desk: Desk, call: Call) -> Desk {
     let mut head = desk.head;
     let mut links = desk.links;
     let mut out = desk.out;
-    let mut told = [0u64; 5];
+    let mut told = [0u64; 10];
     let mut made = [0u64];
     let lent = desk.lent;
     let number = lend(
@@ -72,7 +72,7 @@ fn begun(desk: Desk, address: Address) -> Desk {
     let mut next = desk;
     let mut head = desk.head;
     let mut links = desk.links;
-    let mut told = [0u64; 5];
+    let mut told = [0u64; 10];
     next.number = face_head_calls::begun(address, &mut head, &mut links, &mut told);
     next.head = head;
     next.links = links;

@@ -5,7 +5,7 @@ pub struct Desk {
     pub out: [u8; 180],
     pub lent: usize,
     pub number: u8,
-    pub told: [u64; 5],
+    pub told: [u64; 10],
     pub made: u64,
 }
 
@@ -24,7 +24,7 @@ impl Desk {
             out: [Desk::UNTOUCHED; 180],
             lent: Desk::OUTPUT,
             number: 0,
-            told: [0; 5],
+            told: [0; 10],
             made: 0,
         }
     }

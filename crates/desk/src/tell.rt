@@ -3,9 +3,11 @@ ghost use Prim.Native.Nat.{_≤_};
 use crate::state::Desk;
 use frame::Message;
 use frame::Reply;
+use frame_queues::Sets;
 use script::frames;
 use script::messages;
 use script::out;
+use script::sets;
 
 // Count and window.
 fn tell_head(head: [u64; 5]) {
@@ -87,11 +89,23 @@ fn tell_kind(kind: u64) {
     }
 }
 
-fn tell_notice(told: [u64; 5]) {
+fn tell_sets(told: [u64; 10]) {
+    let sets = Sets {
+        first: told[5],
+        second: told[6],
+        third: told[7],
+        fourth: told[8],
+        fifth: told[9],
+    };
+    sets::tell(sets);
+}
+
+fn tell_notice(told: [u64; 10]) {
     if told[1] > 0 {
         tell_kind(told[2]);
         out::field(b" link", told[3]);
         out::field(b" round trip", told[4]);
+        tell_sets(told);
     }
 }
 

@@ -12,6 +12,8 @@ use Rattle.face_box_calls.proofs.deregister.Kinds as deregister-kinds
 use Rattle.face_box_calls.proofs.deregister.Reads as deregister
 use Rattle.face_box_calls.proofs.fresh.Kinds as fresh-kinds
 use Rattle.face_box_calls.proofs.fresh.Reads as fresh
+use Rattle.face_box_calls.proofs.report.Kinds as report-kinds
+use Rattle.face_box_calls.proofs.report.Reads as report
 use Rattle.face_box_calls.proofs.hear.Kinds as hear-kinds
 use Rattle.face_box_calls.proofs.hear.Reads as hear
 use Rattle.face_box_calls.proofs.next_to_send.Kinds as next-kinds
@@ -38,6 +40,10 @@ register-settles κs a e f x y p q = call-settles _ x y _ _ _ _ _ _ p q
 
 pub deregister-settles : SettlesLent 3 deregister-kinds.ps deregister-kinds.r (λ κs e. left 0 (now (e .0)) (now (e .1 .0)) (now (e .1 .1 .0))) deregister.Post
 deregister-settles κs a e f x y p q = call-settles _ x y _ _ _ _ _ _ p q
+
+pub report-settles : SettlesLent 4 report-kinds.ps report-kinds.r
+    (λ κs e. left 0 (now (e .1 .1 .0)) (now (e .1 .1 .1 .0)) (now (e .1 .1 .1 .1 .0))) report.Post
+report-settles κs a e f x y p q = call-settles _ x y _ _ _ _ _ _ p q
 
 pub hear-settles : SettlesLent 4 hear-kinds.ps hear-kinds.r
     (λ κs e. left 0 (now (e .1 .1 .0)) (now (e .1 .1 .1 .0)) (now (e .1 .1 .1 .1 .0))) hear.Post

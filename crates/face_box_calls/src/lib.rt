@@ -11,12 +11,14 @@ ghost use Rattle.face_box_pass.specs.Block.{wordsAt, boxAt, untilCall};
 ghost use Rattle.clock.specs.Numbers.{inReach};
 ghost use Rattle.face_box.specs.Box.{boxWords};
 ghost use Rattle.face_words.specs.Words.{laid};
-ghost use Rattle.box_calls.specs.Box.{registerOf, deregisterOf, tickOf};
+ghost use Rattle.frame_queues.specs.Asked.{askedOf};
+ghost use Rattle.box_calls.specs.Box.{registerOf, deregisterOf, reportOf, tickOf};
 use box_calls::Answer;
 use box_calls::FloorBox;
 use box_telling::Frames;
 use face_words::SHORT;
 use frame::Address;
+use frame_queues::Sets;
 
 // Words of a box, octets of the frames that a call hands out, words of what it tells at most.
 const BOX: usize = 29;
@@ -168,6 +170,24 @@ pub fn deregister(block: &mut [u64], frames: &mut [u8], reply: &mut [u64]) -> u8
     if is_lent(block.len(), frames.len(), reply.len()) {
         let b = load(block);
         return settle(b.deregister(), block, frames, reply);
+    }
+    SHORT
+}
+
+// The client asks for a REPORT: so many queue sets, and their octets.
+pub fn report(
+    number: u8,
+    sets: &[u8],
+    block: &mut [u64],
+    frames: &mut [u8],
+    reply: &mut [u64],
+) -> u8
+    ensures { λ r. ⌜ left r (now (block .exit)) (now (frames .exit)) (now (reply .exit)) ≡ boxCall (reportOf (askedOf number (now (sets .entry)))) (now (block .entry)) (now (frames .entry)) (now (reply .entry)) ⌝ }
+{
+    if is_lent(block.len(), frames.len(), reply.len()) {
+        let b = load(block);
+        let asked = Sets::asked(number, sets);
+        return settle(b.report(asked), block, frames, reply);
     }
     SHORT
 }

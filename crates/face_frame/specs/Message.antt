@@ -3,6 +3,7 @@
 use Prim.Native.Nat.{ℕ, _-_}
 use mathlib.Core.List.{List, [], _∷_, _++_, map}
 use lib.ListN.{length, replicate}
+use Rattle.frame_queues.specs.Words.{setsWords}
 use Rattle.frame.specs.Layout.{listed, forceBits, registerReqFlag, registerFlag, registerAckFlag}
 use Rattle.frame.specs.declared.Body.{Body}
 use Rattle.frame.specs.declared.Body.the-variants.{Gate, Discovery, Report, RegisterReq, Register, RegisterAck}
@@ -13,7 +14,7 @@ use Rattle.face_words.specs.Words.{joined, bit}
 abbrev pub kindOf : Body → ℕ
 kindOf (Gate grants) = 0
 kindOf (Discovery grant sync) = 1
-kindOf Report = 2
+kindOf (Report sets) = 2
 kindOf (RegisterReq flag pending) = 3
 kindOf (Register port flag sync pending) = 4
 kindOf (RegisterAck flag port sync) = 5
@@ -27,7 +28,8 @@ abbrev pub fieldsOf : Body → List ℕ
 -- how many grants, their force bits as on the wire, and the grants
 fieldsOf (Gate grants) = length (listed grants) ∷ forceBits (listed grants) ∷ map grantWord (listed grants)
 fieldsOf (Discovery grant sync) = sync .0 ∷ bit (grant .force) ∷ grantWord grant ∷ []
-fieldsOf Report = []
+-- the forty octets of the body
+fieldsOf (Report sets) = setsWords sets
 fieldsOf (RegisterReq flag pending) = registerReqFlag flag ∷ pending ∷ []
 fieldsOf (Register port flag sync pending) = registerFlag flag ∷ port ∷ sync .0 ∷ pending ∷ []
 fieldsOf (RegisterAck flag port sync) = registerAckFlag flag ∷ port ∷ sync .0 ∷ []

@@ -13,11 +13,13 @@ use lib.ListN.{length, drop, replicate}
 use lib.Pow.{pow-add, pow-pos}
 use Rattle.laws.specs.Cases.{decided}
 use Rattle.octets.specs.Octets.{fieldOf}
+use Rattle.frame_queues.specs.Queues.{usedOf, cutOf, setsOf}
+use Rattle.frame_queues.specs.declared.Sets.{Sets}
 use Rattle.frame.specs.Layout.{forceBits}
 use Rattle.frame.specs.Reading.{oneOf, sourceInRange}
 use Rattle.frame.specs.declared.Body.{Body}
 use Rattle.frame.specs.declared.Body.the-variants.{Gate}
-use Rattle.frame_reader.specs.Decode.{bit, grantAt, registerReqAt, registerAt, registerAckAt}
+use Rattle.frame_reader.specs.Decode.{bit, grantAt, reportAt, registerReqAt, registerAt, registerAckAt}
 use Rattle.frame_reader.specs.Flags.{few}
 use Rattle.frame_reader.proofs.Gate.{one-odd, grantsFrom, four-from, take-from, bits-from}
 use Rattle.face_frame.specs.Laws.{req-flag-word, flag-word, ack-flag-word}
@@ -30,6 +32,12 @@ pub sourced-ranged : (t : Bool) (l m : List ℕ) (body : Body) → sourced l m (
 unfolding messageWords
 sourced-ranged t l m body =
     ⊎-elim (λ (e : sourceInRange l ≡ true). rw e) (λ (e : sourceInRange l ≡ false). rw e) (decided (sourceInRange l))
+
+-- the sets that are cut
+pub report-words : (l m : List ℕ) (t : Sets) → leb (usedOf (drop 20 l)) 40 ≡ true → t ≡ setsOf (cutOf (drop 20 l))
+    → bodied l m 2 (t .first) (t .second) (t .third) (t .fourth) (t .fifth) 0 ≡ told (ranged (leb (usedOf (drop 20 l)) 40) l (reportAt l)) m
+unfolding messageWords reportAt
+report-words l m t h e = rw (h, e)
 
 pub register-req-words : (l m : List ℕ) → oneOf (fieldOf l 20 1) (1 ∷ 3 ∷ []) ≡ true
     → bodied l m 3 (fieldOf l 20 1) (fieldOf l 21 1) 0 0 0 0 ≡ told (ranged (oneOf (fieldOf l 20 1) (1 ∷ 3 ∷ [])) l (registerReqAt l)) m

@@ -2,17 +2,19 @@
 ghost use mathlib.Core.Path.{_≡_};
 ghost use mathlib.Core.List.{[], _∷_};
 ghost use Prim.Native.Nat.{_+_, _≤_, _<_, _^_};
-ghost use lib.ListN.{length};
+ghost use lib.Dec.{leb};
+ghost use lib.ListN.{length, drop};
 ghost use Rattle.octets.specs.Octets.{fieldOf};
 ghost use Rattle.frame.specs.Reading.{oneOf, gateInRange};
-ghost use Rattle.frame.specs.declared.Body.the-variants.{Report};
-ghost use Rattle.frame_reader.specs.Decode.{gateAt, registerReqAt, registerAt, registerAckAt, readControl};
+ghost use Rattle.frame_queues.specs.Queues.{usedOf};
+ghost use Rattle.frame_reader.specs.Decode.{gateAt, reportAt, registerReqAt, registerAt, registerAckAt, readControl};
 ghost use Rattle.face_frame_read.specs.Read.{readLeft, told, readCall};
 ghost use Rattle.face_frame_read.specs.Steps.{tenOver, bodied, blank, sourced, wordAt, ranged, discoveryRead, grantsRead};
 use face_words::SHORT;
 use frame::Address;
 use frame::Body;
 use frame::Message;
+use frame_queues::Sets;
 
 // The card's numbers for a refused frame.
 const SIZE: u8 = 1;
@@ -22,6 +24,9 @@ const KIND: u8 = 2;
 const OPCODE: u8 = 3;
 
 const RANGE: u8 = 4;
+
+// Octets of a body.
+const BODY: usize = 40;
 
 // Words of a message.
 const WORDS: usize = 10;
@@ -143,10 +148,14 @@ fn read_gate(s: &[u8], m: &mut [u64]) -> u8
 
 fn read_report(s: &[u8], m: &mut [u64]) -> u8
     requires { ⌜ (length (now s) ≡ 60) × (10 ≤ length (now m)) ⌝ }
-    ensures { λ r. ⌜ readLeft r (now (m .exit)) ≡ sourced (now (s .entry)) (now (m .entry)) (told (ranged (oneOf (fieldOf (now (s .entry)) 20 1) (0 ∷ [])) (now (s .entry)) Report) (now (m .entry))) ⌝ }
+    ensures { λ r. ⌜ readLeft r (now (m .exit)) ≡ sourced (now (s .entry)) (now (m .entry)) (told (ranged (leb (usedOf (drop 20 (now (s .entry)))) 40) (now (s .entry)) (reportAt (now (s .entry)))) (now (m .entry))) ⌝ }
 {
-    if field(s, 20, 1) == 0 {
-        return take(s, m, 2, 0, 0, 0, 0, 0, 0);
+    let body = &s[20..];
+    let u = frame_queues::used(body);
+    if u <= BODY {
+        let sets = Sets::of(body);
+        let t = sets.cut(u);
+        return take(s, m, 2, t.first, t.second, t.third, t.fourth, t.fifth, 0);
     }
     refuse(m, RANGE)
 }

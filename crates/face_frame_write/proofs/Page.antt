@@ -6,15 +6,20 @@ use mathlib.Core.Bool.{Bool, true, false, cond, _||_, true≢false}
 use mathlib.Core.Logic.{⊎-elim}
 use mathlib.Core.List.{List, [], _∷_, _++_}
 use native.Mathlib.Omega.{arith}
-use borrow.Author.Tests.{eqb-true, leb-true, eq-eqb, ne-eqb, le-leb}
+use borrow.Author.Tests.{eqb-true, eqb-false, leb-true, eq-eqb, ne-eqb, le-leb}
 use lib.Dec.{eqb, leb}
-use lib.ListN.{length, drop, replicate}
+use lib.ListN.{length, take, drop, replicate}
 use Rattle.laws.specs.Cases.{decided, either}
 use Rattle.octets.specs.Octets.{onto, bytes}
-use Rattle.frame.specs.Layout.{frameOf, opcodeOf, firstOctet, bodyOctets, encode}
+use Rattle.frame_queues.specs.Laws.{cut-is, fits-cut, padded-forty, forty-length}
+use Rattle.frame_queues.specs.Asked.{padded}
+use Rattle.frame_queues.specs.Queues.{usedOf, fortyOf, fitsSets}
+use Rattle.frame_queues.specs.declared.Sets.{Sets}
+use Rattle.frame.specs.Layout.{headerOf, frameOf, opcodeOf, firstOctet, bodyOctets, encode}
 use Rattle.frame.specs.Range.{individualIn}
 use Rattle.frame.specs.Reading.{oneOf}
 use Rattle.frame.specs.declared.Body.{Body}
+use Rattle.frame.specs.declared.Body.the-variants.{Report}
 use Rattle.frame_range.specs.Fits.{fitsBody, fitsMessage}
 use Rattle.frame_reader.specs.Flags.{registerReqFlagOf, registerFlagOf, registerAckFlagOf}
 use Rattle.face_words.specs.Laws.{same-is, same-self, joined-again}
@@ -24,7 +29,7 @@ use Rattle.face_frame.specs.Message.{kindOf, fieldsOf, messageWords}
 use Rattle.face_frame.specs.Tells.{at, bodyOf, messageOf, isMessage}
 use Rattle.frame_writer.specs.Write.{writeOf}
 use Rattle.face_frame_write.specs.Write.{writeLeft, writingOf, written}
-use Rattle.face_frame_write.specs.Steps.{laidOut, grantBytes, discoveryLaid, reportLaid, registerReqLaid, registerLaid, registerAckLaid}
+use Rattle.face_frame_write.specs.Steps.{laidOut, grantBytes, discoveryLaid, setsLaid, reportLaid, registerReqLaid, registerLaid, registerAckLaid}
 use Rattle.face_frame_write.proofs.Chain.{chain, Each, each, passed}
 
 abbrev pub bodyWords : Body → List ℕ
@@ -117,31 +122,41 @@ one-octet true = refl
 one-octet false = refl
 
 module _ (d s t : ℕ) (o : List ℕ) where
+  -- the octets that sets take and their pad are the forty, if they fit
+  report-frame : (sets : Sets) → fitsSets sets ≡ true → frameOf d s 3 t (bodyOctets (Report sets)) ≡ frameOf d s 3 t (fortyOf sets)
+  unfolding bodyOctets
+  report-frame sets h =
+      let o = fortyOf sets in
+      let whole : padded (take (usedOf o) o) ≡ padded o =
+      sym (cut-is o (forty-length sets)) ∙ fits-cut sets h ∙ sym (padded-forty o (forty-length sets)) in
+      ap (λ (l : List ℕ). headerOf d s 3 t ++ l) whole
+
+  -- the sixth word of a REPORT is 0
+  sixth : (a b c e f g : ℕ) → isMessage (d ∷ s ∷ t ∷ 2 ∷ a ∷ b ∷ c ∷ e ∷ f ∷ g ∷ []) ≡ true → g ≡ 0
+  unfolding isMessage messageOf messageWords bodyOf
+  sixth a b c e f g m = let w = d ∷ s ∷ t ∷ 2 ∷ a ∷ b ∷ c ∷ e ∷ f ∷ g ∷ [] in sym (place (same-is (messageWords (messageOf w)) w m) 9)
+
+  report-words : (a b c e f : ℕ)
+      → setsLaid d s t (record { first = a; second = b; third = c; fourth = e; fifth = f }) o
+      ≡ written (writingOf (d ∷ s ∷ t ∷ 2 ∷ a ∷ b ∷ c ∷ e ∷ f ∷ 0 ∷ [])) o
+  unfolding setsLaid bodyOf
+  report-words a b c e f =
+      let sets : Sets = record { first = a; second = b; third = c; fourth = e; fifth = f } in
+      paged d s t 2 (a ∷ b ∷ c ∷ e ∷ f ∷ 0 ∷ []) o
+      (fitsSets sets ∷ [])
+      (frameOf d s 3 t (fortyOf sets))
+      (λ h. record { kind = refl; words = refl; fits = h .0; frame = report-frame sets (h .0) })
+      (λ _ p q. (q, tt))
+
   pub report-page : (a b c e f g : ℕ)
       → reportLaid d s t a b c e f g o ≡ written (writingOf (d ∷ s ∷ t ∷ 2 ∷ a ∷ b ∷ c ∷ e ∷ f ∷ g ∷ [])) o
-  unfolding reportLaid bodyOf bodyOctets onto
+  unfolding reportLaid
   report-page a b c e f g =
-      paged d s t 2 (a ∷ b ∷ c ∷ e ∷ f ∷ g ∷ []) o
-      (eqb a 0 ∷ eqb b 0 ∷ eqb c 0 ∷ eqb e 0 ∷ eqb f 0 ∷ eqb g 0 ∷ [])
-      (frameOf d s 3 t [])
-      (λ h.
-      record {
-        kind = refl;
-        words =
-            rw (
-              eqb-true a 0 (h .0),
-              eqb-true b 0 (h .1 .0),
-              eqb-true c 0 (h .1 .1 .0),
-              eqb-true e 0 (h .1 .1 .1 .0),
-              eqb-true f 0 (h .1 .1 .1 .1 .0),
-              eqb-true g 0 (h .1 .1 .1 .1 .1 .0),
-            );
-        fits = refl;
-        frame = refl;
-      })
-      (λ _ p _.
-      let i = place p in
-      (zero-of a (i 0), (zero-of b (i 1), (zero-of c (i 2), (zero-of e (i 3), (zero-of f (i 4), (zero-of g (i 5), tt)))))))
+      ⊎-elim
+      (λ (z : eqb g 0 ≡ true). rw (z, eqb-true g 0 z) (report-words a b c e f))
+      (λ (z : eqb g 0 ≡ false).
+      rw z (none d s t 2 (a ∷ b ∷ c ∷ e ∷ f ∷ g ∷ []) o (λ m _. eqb-false g 0 z (sixth a b c e f g m))))
+      (decided (eqb g 0))
 
   pub register-req-page : (flag pending a b c e : ℕ)
       → registerReqLaid d s t flag pending a b c e o ≡ written (writingOf (d ∷ s ∷ t ∷ 3 ∷ flag ∷ pending ∷ a ∷ b ∷ c ∷ e ∷ [])) o

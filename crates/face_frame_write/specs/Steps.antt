@@ -7,9 +7,11 @@ use mathlib.Core.List.{List, [], _++_}
 use lib.Dec.{eqb, leb, ltb}
 use lib.ListN.{drop, replicate}
 use Rattle.octets.specs.Octets.{bytes}
+use Rattle.frame_queues.specs.Queues.{fortyOf, fitsSets}
+use Rattle.frame_queues.specs.declared.Sets.{Sets}
 use Rattle.frame.specs.Layout.{frameOf}
 use Rattle.frame.specs.Range.{individualIn}
-use Rattle.frame_writer.specs.Write.{over}
+use Rattle.octets.specs.Over.{over}
 use Rattle.face_words.specs.Words.{upper, lower}
 use Rattle.face_frame_write.specs.Write.{WriteLeft, writeLeft}
 
@@ -38,6 +40,10 @@ grantBytes g = bytes 4 (upper g) ++ bytes 2 (lower g)
 abbrev pub grantOver : ℕ → List ℕ → ℕ → List ℕ
 grantOver a l g = over (a + 4) (over a l (bytes 4 (upper g))) (bytes 2 (lower g))
 
+abbrev pub setsOver : List ℕ → Sets → List ℕ
+setsOver l s =
+    over 52 (over 44 (over 36 (over 28 (over 20 l (bytes 8 (s .first))) (bytes 8 (s .second))) (bytes 8 (s .third))) (bytes 8 (s .fourth))) (bytes 8 (s .fifth))
+
 module _ (d s t : ℕ) where
   unfoldable pub gateLaid : ℕ → ℕ → ℕ → ℕ → ℕ → ℕ → List ℕ → WriteLeft
   gateLaid n force a b c e o =
@@ -52,9 +58,17 @@ module _ (d s t : ℕ) where
       (frameOf d s 2 t (bytes 1 (cond (eqb force 1) 25 9) ++ grantBytes a ++ bytes 2 sync))
       o
 
+  unfoldable pub emptyLaid : List ℕ → WriteLeft
+  emptyLaid o = laidOut (headerIn d s t) (frameOf d s 3 t []) o
+
+  unfoldable pub setsLaid : Sets → List ℕ → WriteLeft
+  setsLaid sets o = laidOut (headerIn d s t && fitsSets sets) (frameOf d s 3 t (fortyOf sets)) o
+
   unfoldable pub reportLaid : ℕ → ℕ → ℕ → ℕ → ℕ → ℕ → List ℕ → WriteLeft
   reportLaid a b c e f g o =
-      laidOut (headerIn d s t && eqb a 0 && eqb b 0 && eqb c 0 && eqb e 0 && eqb f 0 && eqb g 0) (frameOf d s 3 t []) o
+      cond (eqb g 0)
+      (setsLaid (record { first = a; second = b; third = c; fourth = e; fifth = f }) o)
+      (writeLeft 4 (replicate 60 0 ++ drop 60 o))
 
   unfoldable pub registerReqLaid : ℕ → ℕ → ℕ → ℕ → ℕ → ℕ → List ℕ → WriteLeft
   registerReqLaid flag pending a b c e o =

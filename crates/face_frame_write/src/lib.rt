@@ -7,13 +7,14 @@ ghost use Prim.Native.Nat.{_+_, _≤_};
 ghost use lib.ListN.{length, take, drop, replicate};
 ghost use Rattle.octets.specs.Octets.{bytes};
 ghost use Rattle.frame.specs.Layout.{frameOf};
-ghost use Rattle.frame_writer.specs.Write.{over};
+ghost use Rattle.octets.specs.Over.{over};
 ghost use Rattle.face_frame_write.specs.Write.{writeLeft, writingOf, written, writeCall};
-ghost use Rattle.face_frame_write.specs.Steps.{headerIn, grantIn, forceIn, gateIn, grantOver, gateLaid, discoveryLaid, reportLaid, registerReqLaid, registerLaid, registerAckLaid};
+ghost use Rattle.face_frame_write.specs.Steps.{headerIn, grantIn, forceIn, gateIn, grantOver, setsOver, gateLaid, discoveryLaid, emptyLaid, setsLaid, reportLaid, registerReqLaid, registerLaid, registerAckLaid};
 use face_words::SHORT;
 use frame::Address;
 use frame::Body;
 use frame::Message;
+use frame_queues::Sets;
 
 // The card's number for what has no frame.
 const RANGE: u8 = 4;
@@ -170,6 +171,56 @@ fn write_discovery(
     refuse(o)
 }
 
+// Eight octets. With 0 apart the compiler has a block for each word, and in a block of its own a word is one store.
+fn lay_word(o: &mut [u8], at: usize, x: u64)
+    requires { ⌜ at + 8 ≤ length (now o) ⌝ }
+    ensures { λ _. ⌜ now (o .exit) ≡ over at (now (o .entry)) (bytes 8 x) ⌝ }
+{
+    if x == 0 {
+        lay(o, at, 8, 0);
+    } else {
+        lay(o, at, 8, x);
+    }
+}
+
+// The forty octets of a REPORT's body.
+fn lay_sets(o: &mut [u8], s: Sets)
+    requires { ⌜ 60 ≤ length (now o) ⌝ }
+    ensures { λ _. ⌜ now (o .exit) ≡ setsOver (now (o .entry)) s ⌝ }
+{
+    lay_word(o, 20, s.first);
+    lay_word(o, 28, s.second);
+    lay_word(o, 36, s.third);
+    lay_word(o, 44, s.fourth);
+    lay_word(o, 52, s.fifth);
+}
+
+// Most REPORTs are empty.
+fn write_empty(o: &mut [u8], destination: u64, source: u64, timestamp: u64) -> u8
+    requires { ⌜ 60 ≤ length (now o) ⌝ }
+    ensures { λ r. ⌜ writeLeft r (now (o .exit)) ≡ emptyLaid destination source timestamp (now (o .entry)) ⌝ }
+{
+    if header_in(destination, source, timestamp) {
+        begin(o, destination, source, Body::REPORT, timestamp);
+        return 0;
+    }
+    refuse(o)
+}
+
+// Where the sets end is told from the octets once they are laid.
+fn write_sets(o: &mut [u8], destination: u64, source: u64, timestamp: u64, sets: Sets) -> u8
+    requires { ⌜ 60 ≤ length (now o) ⌝ }
+    ensures { λ r. ⌜ writeLeft r (now (o .exit)) ≡ setsLaid destination source timestamp sets (now (o .entry)) ⌝ }
+{
+    begin(o, destination, source, Body::REPORT, timestamp);
+    lay_sets(o, sets);
+    let used = frame_queues::used(&o[20..60]);
+    if header_in(destination, source, timestamp) & sets.ends(used) {
+        return 0;
+    }
+    refuse(o)
+}
+
 fn write_report(
     o: &mut [u8],
     destination: u64,
@@ -185,18 +236,20 @@ fn write_report(
     requires { ⌜ 60 ≤ length (now o) ⌝ }
     ensures { λ r. ⌜ writeLeft r (now (o .exit)) ≡ reportLaid destination source timestamp a b c d e f (now (o .entry)) ⌝ }
 {
-    if header_in(destination, source, timestamp)
-        & (a == 0)
-        & (b == 0)
-        & (c == 0)
-        & (d == 0)
-        & (e == 0)
-        & (f == 0)
-    {
-        begin(o, destination, source, Body::REPORT, timestamp);
-        return 0;
+    if f != 0 {
+        return refuse(o);
     }
-    refuse(o)
+    if (a == 0) & (b == 0) & (c == 0) & (d == 0) & (e == 0) {
+        return write_empty(o, destination, source, timestamp);
+    }
+    let sets = Sets {
+        first: a,
+        second: b,
+        third: c,
+        fourth: d,
+        fifth: e,
+    };
+    write_sets(o, destination, source, timestamp, sets)
 }
 
 fn write_register_req(

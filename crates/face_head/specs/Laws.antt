@@ -100,7 +100,7 @@ store-turn ls ws now i d h p =
     ∙ ap (λ (us : List ℕ). us ++ drop (5 * i + 5) now) (sym (table-more ls i d h))
     ∙ ap (λ (us : List ℕ). tableWords (take (suc i) ls) ++ us) rest
 
--- what is told has at most five words
-pub told-few : (a : Answer) → length (toldWords a) ≤ 5
+-- what is told has at most ten words
+pub told-few : (a : Answer) → length (toldWords a) ≤ 10
 unfolding toldWords noticeWords
-told-few a = either (λ (us : List ℕ). suc (length us) ≤ 5) (eqb (kindWord (a .notice .kind)) 0) _ _ (λ _. omega arith) (λ _. omega arith)
+told-few a = either (λ (us : List ℕ). suc (length us) ≤ 10) (eqb (kindWord (a .notice .kind)) 0) _ _ (λ _. omega arith) (λ _. omega arith)

@@ -5,10 +5,11 @@ ghost use mathlib.Core.List.{_++_};
 ghost use lib.ListN.{length, take, drop};
 ghost use Rattle.face_head.specs.Head.{windowWords, windowOf, headWords, headOf, headIn};
 ghost use Rattle.face_head.specs.Table.{stateWord, stateOf, linkWords, linkOf, noLink, five, linkIn, wordsAt, linksIn, roomOf, loaded, stored};
-ghost use Rattle.face_head.specs.Told.{kindWord, toldWords};
+ghost use Rattle.face_head.specs.Told.{kindWord, setsOf, toldWords};
 ghost use Rattle.face_words.specs.Words.{laid};
 use clock::Timer;
 use frame::Address;
+use frame_queues::Sets;
 use head_calls::Answer;
 use head_links::Link;
 use head_links::State;
@@ -296,11 +297,24 @@ fn kind_word(kind: Kind) -> u64
         Kind::Request => 1,
         Kind::Registered => 2,
         Kind::Dropped => 3,
-        Kind::Report => 4,
+        Kind::Report(_) => 4,
     }
 }
 
-// Tells how many frames there are, how many notices, and the notice's kind, link and round trip; without a notice its words stay.
+// The queue sets of a REPORT, and of no other notice.
+fn sets_of(kind: Kind) -> Sets
+    ensures { λ r. ⌜ r ≡ setsOf kind ⌝ }
+{
+    match kind {
+        Kind::Nothing => Sets::NONE,
+        Kind::Request => Sets::NONE,
+        Kind::Registered => Sets::NONE,
+        Kind::Dropped => Sets::NONE,
+        Kind::Report(sets) => sets,
+    }
+}
+
+// Tells how many frames there are, how many notices, and the notice's kind, link, round trip and queue sets; without a notice its words stay.
 pub fn tell(answer: Answer, reply: &mut [u64])
     ensures { λ _. ⌜ now (reply .exit) ≡ laid (toldWords answer) (now (reply .entry)) ⌝ }
 {
@@ -314,6 +328,18 @@ pub fn tell(answer: Answer, reply: &mut [u64])
         face_words::lay(&quiet, reply);
         return;
     }
-    let words = [frames, 1, word, notice.link as u64, trip.0 as u64];
+    let sets = sets_of(kind);
+    let words = [
+        frames,
+        1,
+        word,
+        notice.link as u64,
+        trip.0 as u64,
+        sets.first,
+        sets.second,
+        sets.third,
+        sets.fourth,
+        sets.fifth,
+    ];
     face_words::lay(&words, reply);
 }

@@ -50,9 +50,9 @@ pub record Told : Type 0 where
 abbrev pub told : ℕ → List ℕ → Told
 told n reply = record { number = n; reply = reply }
 
--- 5 words for the head, 5 for what is told
+-- 5 words for the head, 10 for what is told
 unfoldable pub isLent : ℕ → ℕ → Bool
-isLent head reply = leb 5 head && leb 5 reply
+isLent head reply = leb 5 head && leb 10 reply
 
 unfoldable pub laidHead : Answer → List ℕ → List ℕ
 laidHead a head = laid (headWords (a .next)) head

@@ -29,7 +29,7 @@ const UNSOUND: u8 = 13;
 // Words of a head, and of what a call of it tells.
 const HEAD: usize = 5;
 
-const REPLY: usize = 5;
+const REPLY: usize = 10;
 
 // Octets of a frame.
 const FRAME: usize = 60;

@@ -34,7 +34,7 @@ use Rattle.face_box.specs.Told.{listed, toldWords}
 use Rattle.face_box.specs.declared.LightWords.{LightWords}
 use Rattle.face_box_calls.specs.Calls.{Left, wordsAt, boxAt, isLent, heardOf, toldOf, handed, settled, boxCall, nextCall}
 use Rattle.face_box_pass.specs.Laws.{whole}
-use Rattle.face_laws.specs.Box.{EntriesFit, LightFits, Fits, Words, Stand, Judging, register, deregister, hear, tick, BoxJudged, bare, BoxRefused, BoxReads, BoxRepacked, NobodySends}
+use Rattle.face_laws.specs.Box.{EntriesFit, LightFits, Fits, Words, Stand, Judging, register, deregister, report, hear, tick, BoxJudged, bare, BoxRefused, BoxReads, BoxRepacked, NobodySends}
 use Rattle.face_laws.proofs.RoundTrip.{drop-map, map-all, unpacked}
 
 -- WORDS THAT ARE A BOX'S are the words of what they tell, and that fits
@@ -141,6 +141,7 @@ called : (f : FloorBox → Answer) → Judging f → (b : FloorBox) → (c : Cal
 unfolding heardOf
 called f register b = (core.register, refl)
 called f deregister b = (core.deregister, refl)
+called f (report sets) b = (core.report sets, refl)
 called f (hear octets random r) b = (core.hear (readOf octets .message) random, rw (eq-eqb (numberOf (readOf octets .reply)) 0 r))
 called f tick b = (core.tick, refl)
 

@@ -58,7 +58,7 @@ module _ (h : Head) (xs : List Link) (n : ℕ) (os : List ℕ) (s : soundOf h �
   unfolding hasRoom
   far r i = ap numberOf (call-reply h xs (Call.Advance n) os) ∙ rw (s, t, r, i)
 
-module _ (n : ℕ) (head links output reply made : List ℕ) (d : 1 ≤ length made) (a : 5 ≤ length head) (c : 5 ≤ length reply) where
+module _ (n : ℕ) (head links output reply made : List ℕ) (d : 1 ≤ length made) (a : 5 ≤ length head) (c : 10 ≤ length reply) where
   abbrev x : Served
   x = serveOf (headAt head) (linksAt links) (Call.Advance n) output
 

@@ -65,13 +65,13 @@ links-stand ls ws f e =
     ∙ table-back ls rest f
 
 -- word 0 of what is told is the number of frames
-pub told-number : (a : Answer) (reply : List ℕ) → 5 ≤ length reply → getD (laid (toldWords a) reply) 0 0 ≡ a .frames
+pub told-number : (a : Answer) (reply : List ℕ) → 10 ≤ length reply → getD (laid (toldWords a) reply) 0 0 ≡ a .frames
 unfolding toldWords
 told-number a reply h = ap (λ (w : List ℕ). getD w 0 0) (laid-over (toldWords a) reply (omega (arith, told-few a)))
 
 lent-head : (a b : ℕ) → isLent a b ≡ true → 5 ≤ a
 unfolding isLent
-lent-head a b e = leb-true 5 a (and-eq-true-iff (leb 5 a) (leb 5 b) .0 e .0)
+lent-head a b e = leb-true 5 a (and-eq-true-iff (leb 5 a) (leb 10 b) .0 e .0)
 
 fresh-by : (t : Bool) (xs : List Link) → length (cond t (places (λ k l. idle) 1 xs) xs) ≡ length xs
 fresh-by true xs = length-places (λ k l. idle) 1 xs

@@ -43,13 +43,13 @@ module _ (a : Address) (head links reply : List ℕ) where
   unfolding begunOf
   not-lent e = rw e
 
-  both : isLent (length head) (length reply) ≡ true → (5 ≤ length head) × (5 ≤ length reply)
+  both : isLent (length head) (length reply) ≡ true → (5 ≤ length head) × (10 ≤ length reply)
   unfolding isLent
   both e =
-      let k = and-eq-true-iff (leb 5 (length head)) (leb 5 (length reply)) .0 e in
-      (leb-true 5 (length head) (k .0), leb-true 5 (length reply) (k .1))
+      let k = and-eq-true-iff (leb 5 (length head)) (leb 10 (length reply)) .0 e in
+      (leb-true 5 (length head) (k .0), leb-true 10 (length reply) (k .1))
 
-  module _ (h : 5 ≤ length head) (k : 5 ≤ length reply) where
+  module _ (h : 5 ≤ length head) (k : 10 ≤ length reply) where
     size : length (allLinks links) ≡ length links / 5
     size = length-links (length links / 5) links
 

@@ -156,9 +156,9 @@ module _ (r : Call) (h : Head) (xs : List Link) (os : List ℕ) where
       let is : serveOf h xs r os .answer .reply ≡ Unsound = call-reply h xs r os ∙ rw t in
       ap numberOf is
 
-pub enough : (head reply : List ℕ) → 5 ≤ length head → 5 ≤ length reply → isLent (length head) (length reply) ≡ true
+pub enough : (head reply : List ℕ) → 5 ≤ length head → 10 ≤ length reply → isLent (length head) (length reply) ≡ true
 unfolding isLent
-enough head reply h k = rw (le-leb 5 (length head) h, le-leb 5 (length reply) k)
+enough head reply h k = rw (le-leb 5 (length head) h, le-leb 10 (length reply) k)
 
 -- the first five words of a block
 block-is : (head : List ℕ) → 5 ≤ length head → laid head (replicate 5 0) ≡ take 5 head

@@ -69,7 +69,7 @@ calm head links =
     (λ _ h. absurd (omega arith))
 
 module _ (head links output reply made : List ℕ) (c : Calm head links) (room : 60 * linksIn (length links) ≤ length output)
-    (a : 5 ≤ length reply) (d : 1 ≤ length made) where
+    (a : 10 ≤ length reply) (d : 1 ≤ length made) where
   abbrev h : Head
   h = headAt head
 
@@ -168,7 +168,7 @@ unfolding HeadUntilSound HeadJudged
 head-until-sound head links some =
     let c = calm head links some in
     let output : List ℕ = replicate (60 * linksIn (length links)) 0 in
-    let reply : List ℕ = replicate 5 0 in
+    let reply : List ℕ = replicate 10 0 in
     let made : List ℕ = 0 ∷ [] in
     let room : 60 * linksIn (length links) ≤ length output = omega (arith, length-replicate {A = ℕ} (60 * linksIn (length links)) 0) in
     let p = passes head links output reply made c room (omega arith) (omega arith) 1 (omega arith) some in

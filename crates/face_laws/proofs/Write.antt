@@ -14,6 +14,7 @@ use lib.ListN.{length, take, drop, replicate, length-append, length-map, length-
 use lib.Pow.{pow-pos}
 use lib.Seq.{take-at}
 use Rattle.octets.specs.Octets.{Octets}
+use Rattle.frame_queues.specs.Queues.{SetsTyped}
 use Rattle.frame.specs.Card.{numberOf}
 use Rattle.frame.specs.Layout.{listed, forceBits, registerReqFlag, registerFlag, registerAckFlag, bodyOctets, encode, zeroPad}
 use Rattle.frame.specs.Range.{Valid, GrantsTyped, BodyTyped, GrantsFit as GrantsValid, BodyFits as BodyValid}
@@ -56,7 +57,7 @@ GrantsFit (g ∷ gs) = GrantFits g × GrantsFit gs
 abbrev pub BodyFits : Body → Type 0
 BodyFits (Gate grants) = GrantsFit (listed grants)
 BodyFits (Discovery grant sync) = GrantFits grant × (sync .0 < 2 ^ 32)
-BodyFits Report = Unit {0}
+BodyFits (Report sets) = SetsTyped sets
 BodyFits (RegisterReq flag pending) = pending < 2 ^ 8
 BodyFits (Register port flag sync pending) = (port < 2 ^ 16) × (sync .0 < 2 ^ 32) × (pending < 2 ^ 8)
 BodyFits (RegisterAck flag port sync) = (port < 2 ^ 16) × (sync .0 < 2 ^ 32)
@@ -126,7 +127,7 @@ body-back x y z (Gate grants) h =
     rw (first, grants-back gs h, listed-few grants)
 body-back x y z (Discovery grant sync) h =
     rw (grant-back grant (eqb (cond (grant .force) 1 0) 1) (h .0) (bit-back (grant .force)), within-is 32 (sync .0) (h .1))
-body-back x y z Report h = refl
+body-back x y z (Report sets) h = refl
 body-back x y z (RegisterReq flag pending) h = rw (req-flag-back flag, within-is 8 pending h)
 body-back x y z (Register port flag sync pending) h =
     rw (within-is 16 port (h .0), flag-back flag, within-is 32 (sync .0) (h .1), within-is 8 pending (h .2))
@@ -193,7 +194,7 @@ body-fits w h =
     let ws = take (at w 4) (drop 6 w) in
     few-fit (grantsOf (at w 5) ws) (grants-fit (at w 5) ws (words-take (at w 4) (drop 6 w) (words-drop 6 w h))))
     (λ _. either BodyFits (eqb (at w 3) 1) _ _ (λ _. (grant-fits (at w 6) (words-at 6 w h), within-fits 32 (at w 4)))
-    (λ _. either BodyFits (eqb (at w 3) 2) _ _ (λ _. tt)
+    (λ _. either BodyFits (eqb (at w 3) 2) _ _ (λ _. (words-at 4 w h, words-at 5 w h, words-at 6 w h, words-at 7 w h, words-at 8 w h))
     (λ _. either BodyFits (eqb (at w 3) 3) _ _ (λ _. within-fits 8 (at w 5))
     (λ _. either BodyFits (eqb (at w 3) 4) _ _ (λ _. (within-fits 16 (at w 5), within-fits 32 (at w 6), within-fits 8 (at w 7)))
     (λ _. (within-fits 16 (at w 5), within-fits 32 (at w 6)))))))
@@ -207,7 +208,7 @@ only-messages w h e =
 fields-size : (b : Body) → length (fieldsOf b) ≤ 6
 fields-size (Gate grants) = simp length-map (omega (arith, listed-short grants))
 fields-size (Discovery grant sync) = omega arith
-fields-size Report = omega arith
+fields-size (Report sets) = omega arith
 fields-size (RegisterReq flag pending) = omega arith
 fields-size (Register port flag sync pending) = omega arith
 fields-size (RegisterAck flag port sync) = omega arith
@@ -232,7 +233,7 @@ grants-valid (g ∷ gs) h = ((h .0 .0, omega (arith, h .0 .1)), grants-valid gs 
 body-valid : (b : Body) → BodyValid b → BodyFits b
 body-valid (Gate grants) h = grants-valid (listed grants) h
 body-valid (Discovery grant sync) h = ((h .0 .0, omega (arith, h .0 .1)), omega (arith, h .1))
-body-valid Report h = tt
+body-valid (Report sets) h = h .typed
 body-valid (RegisterReq flag pending) h = h
 body-valid (Register port flag sync pending) h = (h .0, omega (arith, h .1), h .2)
 body-valid (RegisterAck flag port sync) h = (h .0, omega (arith, h .1))
@@ -261,7 +262,7 @@ grants-typed (g ∷ gs) h = (h .0 .0, grants-typed gs (h .1))
 body-typed : (b : Body) → BodyFits b → BodyTyped b
 body-typed (Gate grants) h = grants-typed (listed grants) h
 body-typed (Discovery grant sync) h = h .0 .0
-body-typed Report h = tt
+body-typed (Report sets) h = h
 body-typed (RegisterReq flag pending) h = h
 body-typed (Register port flag sync pending) h = (h .0, h .2)
 body-typed (RegisterAck flag port sync) h = h .0

@@ -47,10 +47,10 @@ module _ (n : ℕ) (head links output reply made : List ℕ) where
     -- with one it is a request as any other: so 100, 13 and 12 come as they do to a tick
     pub request : 1 ≤ length made → headLeft .call ≡ headface.servedOf (Call.Advance n) head links output reply
     -- then 9 to a number that isn't 1 to 65,536
-    pub beyond : 1 ≤ length made → 5 ≤ length head → 5 ≤ length reply → stands.Stand head links → 60 * linksIn (length links) ≤ length output
+    pub beyond : 1 ≤ length made → 5 ≤ length head → 10 ≤ length reply → stands.Stand head links → 60 * linksIn (length links) ≤ length output
         → inReach n ≡ false → headLeft .call .number ≡ 9
     -- a refusal leaves head, links and output, and tells that no tick was made
-    pub refused : 1 ≤ length made → 5 ≤ length head → 5 ≤ length reply → headLeft .call .number ≢ 0
+    pub refused : 1 ≤ length made → 5 ≤ length head → 10 ≤ length reply → headLeft .call .number ≢ 0
         → (headLeft .call .head ≡ head) × (headLeft .call .links ≡ links) × (headLeft .call .output ≡ output) × (headLeft .made ≡ laid (0 ∷ []) made)
 
 unfoldable pub HeadAdvance : Type 0

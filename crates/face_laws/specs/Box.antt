@@ -17,7 +17,8 @@ use Rattle.frame_range.specs.Fits.{isIndividual}
 use Rattle.frame_reader.specs.Decode.{readOf}
 use Rattle.box_light.specs.declared.Light.{Light}
 use Rattle.box_light.specs.declared.Light.the-variants.{Rest, Before, Random, Warming, Asking, Due, Lit, Open}
-use Rattle.box_calls.specs.Box.{soundOf, registerOf, deregisterOf, tickOf}
+use Rattle.frame_queues.specs.declared.Sets.{Sets}
+use Rattle.box_calls.specs.Box.{soundOf, registerOf, deregisterOf, reportOf, tickOf}
 use Rattle.box_calls.specs.declared.Answer.{Answer}
 use Rattle.box_calls.specs.declared.FloorBox.{FloorBox}
 use Rattle.face_words.specs.Words.{laid}
@@ -76,6 +77,7 @@ pub record Stand (block : List ℕ) : Type 0 where
 pub data Judging : (FloorBox → Answer) → Type 0 where
   register : Judging registerOf
   deregister : Judging deregisterOf
+  report : (sets : Sets) → Judging (reportOf sets)
   hear : (octets : List ℕ) (random : ℕ) → numberOf (readOf octets .reply) ≡ 0 → Judging (heardOf octets random)
   tick : Judging tickOf
 

@@ -58,14 +58,14 @@ pub record Stand (head links : List ℕ) : Type 0 where
 -- a request that lends enough is answered otherwise than 13 just where they stand
 unfoldable pub HeadJudged : Type 0
 HeadJudged =
-    (r : Call) (head links output reply : List ℕ) → 5 ≤ length head → 5 ≤ length reply
+    (r : Call) (head links output reply : List ℕ) → 5 ≤ length head → 10 ≤ length reply
     → (Stand head links → servedOf r head links output reply .number ≢ 13)
     × (servedOf r head links output reply .number ≢ 13 → Stand head links)
 
 -- a frame that the reader refuses is answered by the reader's number, whatever the words; any other is the request to hear its message
 unfoldable pub HeadReads : Type 0
 HeadReads =
-    (link : ℕ) (os head links output reply : List ℕ) → 5 ≤ length head → 5 ≤ length reply
+    (link : ℕ) (os head links output reply : List ℕ) → 5 ≤ length head → 10 ≤ length reply
     → (numberOf (readOf os .reply) ≢ 0 → heardOf link os head links output reply .number ≡ numberOf (readOf os .reply))
     × (numberOf (readOf os .reply) ≡ 0
     → heardOf link os head links output reply ≡ servedOf (Call.Hear link (readOf os .message)) head links output reply)
@@ -83,12 +83,12 @@ HeadRepacked = (head links : List ℕ) (s : Stand head links) → Repacked head 
 -- A fresh head, word for word: too little lent, a table of no allowed size, an address that is none of a head's, and done. Nothing but the last two
 -- writes a word of the block, and nothing but the last one of the table.
 pub record Fresh (a : Address) (head links reply : List ℕ) : Type 0 where
-  pub short : ¬ ((5 ≤ length head) × (5 ≤ length reply)) → begunOf a head links reply ≡ begunLeft 100 head links reply
-  pub unsound : 5 ≤ length head → 5 ≤ length reply → isFew (length links / 5) ≡ false
+  pub short : ¬ ((5 ≤ length head) × (10 ≤ length reply)) → begunOf a head links reply ≡ begunLeft 100 head links reply
+  pub unsound : 5 ≤ length head → 10 ≤ length reply → isFew (length links / 5) ≡ false
       → begunOf a head links reply ≡ begunLeft 13 head links (laid (0 ∷ 0 ∷ []) reply)
-  pub range : 5 ≤ length head → 5 ≤ length reply → isFew (length links / 5) ≡ true → isIndividual a ≡ false
+  pub range : 5 ≤ length head → 10 ≤ length reply → isFew (length links / 5) ≡ true → isIndividual a ≡ false
       → begunOf a head links reply ≡ begunLeft 4 (laid (0 ∷ 0 ∷ 0 ∷ 0 ∷ 0 ∷ []) head) links (laid (0 ∷ 0 ∷ []) reply)
-  pub done : 5 ≤ length head → 5 ≤ length reply → isFew (length links / 5) ≡ true → isIndividual a ≡ true
+  pub done : 5 ≤ length head → 10 ≤ length reply → isFew (length links / 5) ≡ true → isIndividual a ≡ true
       → begunOf a head links reply
       ≡ begunLeft 0 (laid (a .0 ∷ 0 ∷ 0 ∷ 0 ∷ 0 ∷ []) head) (laid (replicate (5 * (length links / 5)) 0) links) (laid (0 ∷ 0 ∷ []) reply)
 

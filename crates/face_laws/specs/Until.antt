@@ -57,7 +57,7 @@ unfoldable pub HeadUntil : Type 0
 HeadUntil =
     (head links : List ℕ)
     → (headUntil head links ≤ 65536)
-    × ((output reply made : List ℕ) (k : ℕ) → 60 * linksIn (length links) ≤ length output → 5 ≤ length reply → 1 ≤ length made
+    × ((output reply made : List ℕ) (k : ℕ) → 60 * linksIn (length links) ≤ length output → 10 ≤ length reply → 1 ≤ length made
     → 1 ≤ k → k ≤ headUntil head links → HeadPasses k head links output reply made)
 
 unfoldable pub HeadUntilSound : Type 0
@@ -72,5 +72,5 @@ pub record HeadSends (u : ℕ) (head links output reply made : List ℕ) : Type 
 unfoldable pub HeadUntilEnds : Type 0
 HeadUntilEnds =
     (head links output reply made : List ℕ) → stands.Stand head links → 5 ≤ length head
-    → 60 * linksIn (length links) ≤ length output → 5 ≤ length reply → 1 ≤ length made → headUntil head links < 65536
+    → 60 * linksIn (length links) ≤ length output → 10 ≤ length reply → 1 ≤ length made → headUntil head links < 65536
     → HeadSends (headUntil head links) head links output reply made

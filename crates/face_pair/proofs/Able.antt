@@ -11,6 +11,8 @@ use borrow.Author.Tests.{leb-true}
 use lib.Dec.{eqb, leb}
 use lib.ListN.{length, replicate, length-replicate}
 use Rattle.laws.specs.Cases.{either, decided}
+use Rattle.frame_queues.specs.Asked.{askedOf}
+use Rattle.frame_queues.specs.Asking.{asked-typed}
 use Rattle.frame.specs.Card.{numberOf}
 use Rattle.frame.specs.declared.Address.{Address}
 use Rattle.frame.specs.declared.Reply.the-variants.{Done}
@@ -24,6 +26,7 @@ use Rattle.head_judging.specs.declared.Call.{Call}
 use Rattle.head_calls.specs.Fresh.{Freshly, freshOf}
 use Rattle.head_laws.specs.Events.{table-parts}
 use Rattle.head_laws.specs.Runs.{run-sound}
+use Rattle.pair_wire.specs.Carried.{octets-of}
 use Rattle.pair_wire.specs.Message.{areOctets, messageIn, stamped}
 use Rattle.pair_wire.specs.Stamped.{stamped-octets}
 use Rattle.pair_demand.specs.Run.{Answer, End}
@@ -49,6 +52,7 @@ use Rattle.face_pair.specs.Head.{HeadFace}
 use Rattle.face_pair.proofs.Box as boxes
 use Rattle.face_pair.proofs.BoxLeft as lefts
 use Rattle.face_pair.proofs.Head as heads
+use Rattle.face_pair.proofs.Reports.{worded}
 use Rattle.face_pair.proofs.Stamp.{own, own-heard}
 use Rattle.face_pair.proofs.Starts as starts
 use Rattle.face_pair.proofs.Ticks as ticked
@@ -93,11 +97,16 @@ module _ (A : Address) where
         rw (unread-none os h u) (stays 1 (boxes.unread-spares A block random starts.lent os h g u enough)))
         (decided (eqb (numberOf (readOf os .reply)) 0))
 
-    box-calls : (c : box-end.Request) → (d : box.Asked A) × Unit {0} × Comes (BoxFace A) BGood (box.asked A block d) (BoxEnd A .call b c)
-    box-calls box-end.register =
+    box-calls : (c : box-end.Request) → box-end.Fair c → (d : box.Asked A) × box.Fair A d × Comes (BoxFace A) BGood (box.asked A block d) (BoxEnd A .call b c)
+    box-calls box-end.register f =
         (box.register starts.lent, tt, comes (boxes.lent-as A calls.register block starts.lent tt g enough))
-    box-calls box-end.deregister =
+    box-calls box-end.deregister f =
         (box.deregister starts.lent, tt, comes (boxes.lent-as A calls.deregister block starts.lent tt g enough))
+    box-calls (box-end.report sets) f =
+        let a = worded b sets f in
+        let c = calls.report (askedOf (a .number) (a .sets)) in
+        let t = asked-typed (a .number) (a .sets) (octets-of (a .number ∷ a .sets) (a .octets)) in
+        (box.report (a .number) (a .sets) starts.lent, a .octets, rw (a .same) (comes (boxes.lent-as A c block starts.lent t g enough)))
 
     box-hears : (random : ℕ) (os : List ℕ) → (v : box.Heard) × Comes (BoxFace A) BGood (box.heard A block v os) (BoxEnd A .hear b random os)
     box-hears random os = (
@@ -120,7 +129,7 @@ module _ (A : Address) where
   box-able =
       record {
         starts = box-starts;
-        calls = λ block g c f. box-calls block g c;
+        calls = box-calls;
         hears = box-hears;
         ticks = λ block g x z.
             let a = boxes.lent-as A calls.tick block starts.lent tt g (enough block g) in

@@ -3,7 +3,7 @@
 use Prim.Native.Nat.{ℕ, _≤_}
 use mathlib.Core.Path.{_≡_, refl, sym, ap, subst, _∙_}
 use mathlib.Core.Bool.{Bool, true, false}
-use mathlib.Core.List.{List, [], _++_}
+use mathlib.Core.List.{List, [], _∷_, _++_}
 use mathlib.Core.Logic.{_≢_, _⊎_, inl, inr, ⊎-elim}
 use mathlib.Core.Option.{some}
 use native.Mathlib.Omega.{arith}
@@ -11,6 +11,8 @@ use borrow.Author.Tests.{eqb-false}
 use lib.Dec.{eqb}
 use lib.ListN.{length, take, replicate, length-append, length-take}
 use Rattle.laws.specs.Cases.{either, decided}
+use Rattle.frame_queues.specs.Asked.{askedOf}
+use Rattle.frame_queues.specs.Asking.{asked-typed}
 use Rattle.frame.specs.Card.{numberOf}
 use Rattle.frame.specs.declared.Address.{Address}
 use Rattle.frame.specs.declared.Message.{Message}
@@ -28,7 +30,7 @@ use Rattle.box_laws.specs.Calls.{Outcome, unsound, refuses, accepts, outcome, r
 use Rattle.box_laws.specs.Stated.{Call, answer, CallTyped}
 use Rattle.face_words.specs.Laws.{laid-whole}
 use Rattle.face_words.specs.Words.{laid}
-use Rattle.pair_wire.specs.Carried.{carries-valid}
+use Rattle.pair_wire.specs.Carried.{octets-of, carries-valid}
 use Rattle.pair_wire.specs.Message.{areOctets, messageIn, stamped}
 use Rattle.pair_wire.specs.Restarts.{callsBox, downRestarts}
 use Rattle.pair_wire.specs.Stamped.{stamped-octets, stamped-tested}
@@ -43,7 +45,7 @@ use Rattle.pair_box.proofs.Typed.{typed-of}
 use Rattle.face_box_calls.specs.Calls as face
 use Rattle.face_box_calls.specs.Calls.{Left, left, wordsAt, boxAt, isLent, heardOf, freshCall, boxCall}
 use Rattle.face_laws.proofs.Calls.{stands, stands-long, words-stand}
-use Rattle.face_pair.specs.Box.{Lent, Fresh, Asked, register, deregister, fresh, again, moves, moved, Heard, answered, heard, BoxFace}
+use Rattle.face_pair.specs.Box.{Lent, Fresh, Asked, register, deregister, report, fresh, Fair, again, moves, moved, Heard, answered, heard, BoxFace}
 use Rattle.face_pair.proofs.BoxFits.{box-fits}
 use Rattle.face_pair.proofs.BoxLeft.{no-sixties, call-sixties, handed-sent, lent-parts, lent, isDone, got, short, refuse-block, refuse-number, refuse-sent, short-sent, done-number, done-block, done-sent}
 use Rattle.face_pair.proofs.Laid.{laid-again}
@@ -149,13 +151,13 @@ module _ (A : Address) where
       → Untouched (BoxFace A) Good block (answered (got f block l))
   short-spares f block l g e = unchanged (BoxFace A) Good g (ap (λ (y : Left). y .block) (short f block l e)) (short-sent f block l e)
 
-  call-does : (c : Call) (q : core.Request) (block : List ℕ) (l : Lent) → CallTyped c → Good block
+  call-does : (c : Call) (q : core.Request) (block : List ℕ) (l : Lent) → CallTyped c → core.Fair q → Good block
       → core.told (answer c (boxAt block)) ≡ BoxEnd A .call (boxAt block) q
       → Does (BoxFace A) Good block (answered (boxCall (answer c) block (l .frames) (l .reply)))
-  call-does c q block l t g e =
+  call-does c q block l t f g e =
       ⊎-elim
       (λ (n : lent (answer c) block l ≡ true).
-      does q tt (subst (As (BoxFace A) Good (answered (boxCall (answer c) block (l .frames) (l .reply)))) e (lent-as c block l t g n)))
+      does q f (subst (As (BoxFace A) Good (answered (boxCall (answer c) block (l .frames) (l .reply)))) e (lent-as c block l t g n)))
       (λ (n : lent (answer c) block l ≡ false). spares (short-spares (answer c) block l g n))
       (decided (lent (answer c) block l))
 
@@ -256,12 +258,16 @@ module _ (A : Address) where
   fresh-faithful block f =
       subst (λ (w : List ℕ). Good w × BoxEnd A .Fresh (boxAt w)) (sym (f .3)) (fresh-stands (f .0) (f .1) (f .2))
 
-  call-faithful : (block : List ℕ) (c : Asked A) → Good block → Does (BoxFace A) Good block (BoxFace A .call block c)
-  call-faithful block (register l) g = call-does calls.register core.register block l tt g refl
-  call-faithful block (deregister l) g = call-does calls.deregister core.deregister block l tt g refl
-  call-faithful block (fresh l) g = fresh-does block l g
-  call-faithful block (again made f) g = let s = fresh-faithful made f in begins (s .0) (s .1) refl
-  call-faithful block (moves behind) g =
+  call-faithful : (block : List ℕ) (c : Asked A) → Good block → Fair A c → Does (BoxFace A) Good block (BoxFace A .call block c)
+  call-faithful block (register l) g f = call-does calls.register core.register block l tt tt g refl
+  call-faithful block (deregister l) g f = call-does calls.deregister core.deregister block l tt tt g refl
+  call-faithful block (report number sets l) g f =
+      let s = askedOf number sets in
+      let t = asked-typed number sets (octets-of (number ∷ sets) f) in
+      call-does (calls.report s) (core.report s) block l t t g refl
+  call-faithful block (fresh l) g f = fresh-does block l g
+  call-faithful block (again made f) g k = let s = fresh-faithful made f in begins (s .0) (s .1) refl
+  call-faithful block (moves behind) g f =
       spares (record { good = moved-good block behind g; next = moved-box block behind g; sent = refl })
 
   -- octets
@@ -342,7 +348,7 @@ module _ (A : Address) where
   box-faithful =
       record {
         fresh = fresh-faithful;
-        of-call = λ block c g f. call-faithful block c g;
+        of-call = call-faithful;
         of-hear = hear-faithful;
         of-tick = tick-faithful;
       }

@@ -150,11 +150,11 @@ module _ (w : Words) (behind beyond : List ℕ) (less : length beyond < 5) where
 
 five : (a b : ℕ) → isLent a b ≡ true → 5 ≤ a
 unfolding isLent
-five a b e = leb-true 5 a (and-eq-true-iff (leb 5 a) (leb 5 b) .0 e .0)
+five a b e = leb-true 5 a (and-eq-true-iff (leb 5 a) (leb 10 b) .0 e .0)
 
-five-told : (a b : ℕ) → isLent a b ≡ true → 5 ≤ b
+ten-told : (a b : ℕ) → isLent a b ≡ true → 10 ≤ b
 unfolding isLent
-five-told a b e = leb-true 5 b (and-eq-true-iff (leb 5 a) (leb 5 b) .0 e .1)
+ten-told a b e = leb-true 10 b (and-eq-true-iff (leb 5 a) (leb 10 b) .0 e .1)
 
 module _ (r : Call) (w : Words) (l : Lent) where
   abbrev pub lent : Bool
@@ -179,7 +179,7 @@ module _ (r : Call) (w : Words) (l : Lent) where
     unfolding handed
     done-sent n =
         ap sentIn (is-handed r (w .head) (w .links) (l .output) (l .reply) e)
-        ∙ rw (n, told-number (x .answer) (l .reply) (five-told (length (w .head)) (length (l .reply)) e))
+        ∙ rw (n, told-number (x .answer) (l .reply) (ten-told (length (w .head)) (length (l .reply)) e))
 
     refused-sent : isDone (x .answer .reply) ≡ false → sentIn got ≡ framesIn (x .answer .frames) (x .octets)
     refused-sent n =

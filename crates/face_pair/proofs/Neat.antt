@@ -55,7 +55,7 @@ use Rattle.box_calls.specs.Answer.{accepted}
 use Rattle.box_calls.specs.declared.Answer.{Answer}
 use Rattle.box_calls.specs.declared.FloorBox.{FloorBox}
 use Rattle.box_laws.specs.Calls.{step, Outcome, unsound, refuses, accepts, outcome}
-use Rattle.box_laws.specs.Stated.{Call, register, deregister, hear, tick, answer, CallTyped}
+use Rattle.box_laws.specs.Stated.{Call, register, deregister, report, hear, tick, answer, CallTyped}
 use Rattle.box_laws.proofs.Activated.{activate-leaves}
 
 pub record Neat (p : Processes) : Type 0 where
@@ -163,7 +163,7 @@ hear-neat : (body : Body) (p : Processes) (own : Bool) (random : ℕ) → Neat p
 hear-neat (Gate grants) p own random w h = gated-neat p (listed grants) w
 hear-neat (Discovery grant sync) p own random w h = discover-neat p grant sync own random w
 hear-neat (Register port flag sync pending) p own random w h = register-neat (p .registration .state) flag p port sync w (h .0)
-hear-neat Report p own random w h = w
+hear-neat (Report sets) p own random w h = w
 hear-neat (Request flag pending) p own random w h = w
 hear-neat (RegisterAck flag port sync) p own random w h = w
 
@@ -214,6 +214,7 @@ tick-neat p w =
 step-neat : (c : Call) (b : FloorBox) → CallTyped c → Neat (b .processes) → Neat (step c b .next)
 step-neat register b t w = record { port = w .port; list = w .list }
 step-neat deregister b t w = left-neat w _ refl refl
+step-neat (report sets) b t w = record { port = w .port; list = w .list }
 step-neat (hear m random) b t w =
     hear-neat (m .body) (withCount (b .processes) (m .timestamp)) (eqb (m .destination .0) (b .address .0)) random
     (record { port = w .port; list = w .list }) (t .1)

@@ -10,6 +10,7 @@ use lib.Dec.{eqb, leb}
 use lib.ListN.{length}
 use Rattle.laws.specs.Cases.{either, decided}
 use Rattle.octets.specs.Octets.{fieldOf}
+use Rattle.frame_queues.specs.Asked.{askedOf}
 use Rattle.frame.specs.Card.{numberOf}
 use Rattle.frame.specs.Reading.{bodyInRange, sourceInRange}
 use Rattle.frame.specs.declared.Address.{Address}
@@ -98,6 +99,9 @@ module _ (A : Address) where
     pub box-asks : (c : box.Asked A) → box.BoxWords A .call block c .reply ≢ 13
     box-asks (box.register l) = face-never (answer calls.register) block l (core-never calls.register (boxAt block) (g .ok))
     box-asks (box.deregister l) = face-never (answer calls.deregister) block l (core-never calls.deregister (boxAt block) (g .ok))
+    box-asks (box.report number sets l) =
+        let c = calls.report (askedOf number sets) in
+        face-never (answer c) block l (core-never c (boxAt block) (g .ok))
     box-asks (box.fresh l) = boxes.fresh-number A block l g
     box-asks (box.again made f) = omega arith
     box-asks (box.moves behind) = omega arith

@@ -3,7 +3,7 @@
 use Prim.Native.Nat.{ℕ, _≤_}
 use mathlib.Core.Path.{_≡_, refl, sym, ap, subst, _∙_}
 use mathlib.Core.Bool.{Bool, true, false}
-use mathlib.Core.List.{List}
+use mathlib.Core.List.{List, _∷_}
 use mathlib.Core.Logic.{_≢_, ⊎-elim}
 use mathlib.Core.Option.{Option, none, some}
 use native.Mathlib.Omega.{arith}
@@ -12,6 +12,8 @@ use lib.Dec.{eqb, leb}
 use lib.ListN.{length}
 use Rattle.laws.specs.Cases.{decided}
 use Rattle.clock.specs.Numbers.{inReach}
+use Rattle.frame_queues.specs.Asked.{askedOf}
+use Rattle.frame_queues.specs.Asking.{asked-typed}
 use Rattle.frame.specs.Card.{numberOf}
 use Rattle.frame.specs.declared.Address.{Address}
 use Rattle.frame.specs.declared.Message.{Message}
@@ -29,6 +31,7 @@ use Rattle.box_laws.specs.Runs as core
 use Rattle.head_judging.specs.declared.Call.{Call as HeadCall}
 use Rattle.head_laws.specs.Fresh.{fresh-done}
 use Rattle.head_calls.specs.Fresh.{Freshly}
+use Rattle.pair_wire.specs.Carried.{octets-of}
 use Rattle.pair_wire.specs.Message.{areOctets, messageIn}
 use Rattle.pair_demand.specs.Faithful.{As, Untouched}
 use Rattle.pair_box.specs.End as end
@@ -44,7 +47,7 @@ use Rattle.face_pair.specs.Box.{BoxFace}
 use Rattle.face_pair.specs.Head as head
 use Rattle.face_pair.specs.Head.{HeadFace}
 use Rattle.face_pair.specs.Runs as runs
-use Rattle.face_pair.specs.Runs.{BoxCall, fresh, register, deregister, tick, hear, advance, lentBox, Handed, coreOf, boxLeft, Block, BoxPromise, BoxRuns, HeadHanded, HeadWordsLeft, HeadRuns}
+use Rattle.face_pair.specs.Runs.{BoxCall, fresh, register, deregister, tick, report, hear, advance, lentBox, Handed, coreOf, boxLeft, Block, BoxPromise, BoxRuns, HeadHanded, HeadWordsLeft, HeadRuns}
 use Rattle.face_pair.specs.Refusals.{AdvanceRefusals}
 use Rattle.face_pair.proofs.Box as boxes
 use Rattle.face_pair.proofs.BoxAdvance as advances
@@ -161,6 +164,8 @@ module _ (A : Address) where
     call-holds (register l) h = core-holds box-calls.register l tt
     call-holds (deregister l) h = core-holds box-calls.deregister l tt
     call-holds (tick l) h = core-holds box-calls.tick l tt
+    call-holds (report number sets l) h =
+        core-holds (box-calls.report (askedOf number sets)) l (asked-typed number sets (octets-of (number ∷ sets) h))
     call-holds (hear os random l) h = octets-hold os random l h
     call-holds (advance n made l) h = advance-holds n made l h
 
@@ -201,6 +206,11 @@ module _ (A : Address) where
     call-is (register l) h e = let a = boxes.lent-as A box-calls.register block l tt (k .good) e in (a .reply, a .next)
     call-is (deregister l) h e = let a = boxes.lent-as A box-calls.deregister block l tt (k .good) e in (a .reply, a .next)
     call-is (tick l) h e = let a = boxes.lent-as A box-calls.tick block l tt (k .good) e in (a .reply, a .next)
+    call-is (report number sets l) h e =
+        let c = box-calls.report (askedOf number sets) in
+        let t = asked-typed number sets (octets-of (number ∷ sets) h) in
+        let a = boxes.lent-as A c block l t (k .good) e in
+        (a .reply, a .next)
     call-is (hear os random l) h e = octets-are os random l h e
     call-is (advance n made l) h e = advance-is n made l h e
 
@@ -217,6 +227,7 @@ module _ (A : Address) where
     call-short (register l) e = spared (answer box-calls.register) l e
     call-short (deregister l) e = spared (answer box-calls.deregister) l e
     call-short (tick l) e = spared (answer box-calls.tick) l e
+    call-short (report number sets l) e = spared (answer (box-calls.report (askedOf number sets))) l e
     call-short (hear os random l) e = spared (heardOf os random) l e
     call-short (advance n made l) e =
         let is = as-short n block (l .frames) (l .reply) made (rw e) in
@@ -227,6 +238,7 @@ module _ (A : Address) where
     call-never (register l) = nevers.box-asks A block (k .good) (box.register l)
     call-never (deregister l) = nevers.box-asks A block (k .good) (box.deregister l)
     call-never (tick l) = nevers.box-ticks A block (k .good) l
+    call-never (report number sets l) = nevers.box-asks A block (k .good) (box.report number sets l)
     call-never (hear os random l) = nevers.face-never A (heardOf os random) block l (nevers.heard-never A os random b (k .good .ok))
     call-never (advance n made l) = advances.box-never A block (k .good) (record { ticks = n; lent = l; made = made })
 

@@ -27,7 +27,7 @@ abbrev pub blank : List ℕ
 blank = replicate 29 0
 
 abbrev pub told : List ℕ
-told = replicate 5 0
+told = replicate 10 0
 
 abbrev pub lent : box.Lent
 lent = record { frames = replicate 120 0; reply = replicate 19 0 }

@@ -33,9 +33,9 @@ use Rattle.face_pair.proofs.Demand.{box-gauge, head-gauge, box-words-la
 use Rattle.face_pair.proofs.Head as heads
 use Rattle.face_pair.proofs.Never.{never-unsound}
 
-pub lent-of : (a b : ℕ) → 5 ≤ a → 5 ≤ b → isLent a b ≡ true
+pub lent-of : (a b : ℕ) → 5 ≤ a → 10 ≤ b → isLent a b ≡ true
 unfolding isLent
-lent-of a b h k = rw (le-leb 5 a h, le-leb 5 b k)
+lent-of a b h k = rw (le-leb 5 a h, le-leb 10 b k)
 
 pub box-lent-of : (b f r : ℕ) → 29 ≤ b → 120 ≤ f → 19 ≤ r → face.isLent b f r ≡ true
 unfolding face.isLent
@@ -73,7 +73,7 @@ module _ (A : Address) (D : ℕ) where
   last-fine x =
       stays-fine (first HW BW x) (x .events) (stays-fine (x .start) (x .before) (start-fine (x .start) (x .fresh)) (x .lawful-before)) (x .lawful)
 
-  pub head-tick-done : (w : head.Words) → heads.Good w → (l : head.Lent) → 5 ≤ length (l .reply)
+  pub head-tick-done : (w : head.Words) → heads.Good w → (l : head.Lent) → 10 ≤ length (l .reply)
       → 60 * linksIn (length (w .links)) ≤ length (l .output) → HW .tick w l .reply ≡ 0
   head-tick-done w g l k room =
       let n : length (linksAt (w .links)) ≡ linksIn (length (w .links)) = length-links (linksIn (length (w .links))) (w .links) in
@@ -90,7 +90,7 @@ module _ (A : Address) (D : ℕ) where
       ∙ tick-done A (boxAt block) (g .ok)
 
   tick-allowed : (x : Span HW BW D) (h : head.Lent) (b : box.Lent) → 60 * linksIn (length (last HW BW x .head .links)) ≤ length (h .output)
-      → 5 ≤ length (h .reply) → 120 ≤ length (b .frames) → 19 ≤ length (b .reply) → Allowed HW BW D (last HW BW x) (both-tick h b)
+      → 10 ≤ length (h .reply) → 120 ≤ length (b .frames) → 19 ≤ length (b .reply) → Allowed HW BW D (last HW BW x) (both-tick h b)
   tick-allowed x h b out told frames reply =
       let y = last HW BW x in
       let g = last-fine x in

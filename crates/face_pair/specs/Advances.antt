@@ -89,7 +89,7 @@ pub record Makes (A : Address) (w : head.Words) (block : List ℕ) : Type 0 wher
   pub box : (q : BoxAsked) → inReach (q .ticks) ≡ true → 120 ≤ length (q .lent .frames) → 19 ≤ length (q .lent .reply) → 1 ≤ length (q .made)
       → (BoxAdvances A .advance block q .reply ≡ 0) × (1 ≤ BoxAdvances A .made block q) × (BoxAdvances A .made block q ≤ q .ticks)
   pub head : (q : HeadAsked) → inReach (q .ticks) ≡ true → 60 * linksIn (length (w .links)) ≤ length (q .lent .output)
-      → 5 ≤ length (q .lent .reply) → 1 ≤ length (q .made)
+      → 10 ≤ length (q .lent .reply) → 1 ≤ length (q .made)
       → (HeadAdvances A .advance w q .reply ≡ 0) × (1 ≤ HeadAdvances A .made w q) × (HeadAdvances A .made w q ≤ q .ticks)
 
 unfoldable pub WordsAdvances : Type 0

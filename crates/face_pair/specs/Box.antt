@@ -3,12 +3,13 @@
 -- Assumes nothing.
 use Prim.Native.Nat.{ℕ}
 use mathlib.Core.Path.{_≡_}
-use mathlib.Core.Bool.{cond}
-use mathlib.Core.List.{List, [], _++_}
+use mathlib.Core.Bool.{true, cond}
+use mathlib.Core.List.{List, [], _∷_, _++_}
 use lib.Dec.{eqb}
 use lib.ListN.{take, getD}
 use Rattle.frame.specs.declared.Address.{Address}
-use Rattle.box_calls.specs.Box.{registerOf, deregisterOf, tickOf}
+use Rattle.frame_queues.specs.Asked.{askedOf}
+use Rattle.box_calls.specs.Box.{registerOf, deregisterOf, reportOf, tickOf}
 use Rattle.pair_wire.specs.Message.{areOctets, stamped}
 use Rattle.pair_demand.specs.Run.{Answer, End}
 use Rattle.pair_demand.specs.Face.{Face, through}
@@ -50,15 +51,27 @@ module _ (A : Address) where
   -- calls lend the box's words with something else behind them, or with nothing
   pub data Asked : Type 0 where
     register deregister fresh : Lent → Asked
+    -- how many queue sets, and their octets
+    report : ℕ → List ℕ → Lent → Asked
     again : (block : List ℕ) → Fresh block → Asked
     moves : List ℕ → Asked
 
   abbrev pub asked : List ℕ → Asked → Answer (List ℕ) (List ℕ)
   asked block (register l) = answered (boxCall registerOf block (l .frames) (l .reply))
   asked block (deregister l) = answered (boxCall deregisterOf block (l .frames) (l .reply))
+  asked block (report number sets l) = answered (boxCall (reportOf (askedOf number sets)) block (l .frames) (l .reply))
   asked block (fresh l) = answered (freshCall (A .0) block (l .frames) (l .reply))
   asked block (again made f) = record { reply = 0; next = made; sent = [] }
   asked block (moves behind) = record { reply = 0; next = moved block behind; sent = [] }
+
+  -- a slice of octets holds octets
+  abbrev pub Fair : Asked → Type 0
+  Fair (register l) = Unit {0}
+  Fair (deregister l) = Unit {0}
+  Fair (report number sets l) = areOctets (number ∷ sets) ≡ true
+  Fair (fresh l) = Unit {0}
+  Fair (again block f) = Unit {0}
+  Fair (moves behind) = Unit {0}
 
   -- what isn't octets is in no slice of them
   abbrev pub heard : List ℕ → Heard → List ℕ → Answer (List ℕ) (List ℕ)
@@ -76,7 +89,7 @@ module _ (A : Address) where
         Lent = Lent;
         stands = boxAt;
         Fresh = Fresh;
-        Fair = λ c. Unit {0};
+        Fair = Fair;
         call = asked;
         hear = heard;
         tick = λ block l. answered (boxCall tickOf block (l .frames) (l .reply));

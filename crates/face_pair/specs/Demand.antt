@@ -23,12 +23,12 @@ use Rattle.face_pair.specs.Head.{HeadWords}
 unfoldable pub WordsDemand3 : Type 0
 WordsDemand3 = (A : Address) (D : ℕ) → NoHalfOpen (HeadWords A) (BoxWords A) D watchdog wait
 
--- no tick is refused, at the end of every span, that lends what the header says: sixty octets for each link that the words hold, 5 words for
+-- no tick is refused, at the end of every span, that lends what the header says: sixty octets for each link that the words hold, 10 words for
 -- what the head tells; 120 octets for the box's frames, 19 words for what it tells
 unfoldable pub WordsTicks : Type 0
 WordsTicks =
     (A : Address) (D : ℕ) (x : Span (HeadWords A) (BoxWords A) D) (h : head.Lent) (b : box.Lent)
-    → 60 * linksIn (length (last (HeadWords A) (BoxWords A) x .head .links)) ≤ length (h .output) → 5 ≤ length (h .reply)
+    → 60 * linksIn (length (last (HeadWords A) (BoxWords A) x .head .links)) ≤ length (h .output) → 10 ≤ length (h .reply)
     → 120 ≤ length (b .frames) → 19 ≤ length (b .reply)
     → Allowed (HeadWords A) (BoxWords A) D (last (HeadWords A) (BoxWords A) x) (both-tick h b)
 

@@ -15,7 +15,7 @@ use Rattle.face_box_calls.specs.Calls as box
 use Rattle.face_box_calls.specs.Calls.{boxCall, freshCall}
 use Rattle.face_head_calls.specs.Calls.{Left, left, begunLeft, servedOf, advanceCall, heardOf, begunOf}
 
--- register, deregister, hear and tick of the box are each a `boxCall`
+-- register, deregister, report, hear and tick of the box are each a `boxCall`
 unfoldable pub BoxRefusals : Type 0
 BoxRefusals =
     (f : FloorBox → Answer) (block frames reply : List ℕ) → boxCall f block frames reply .number ≢ 0

@@ -4,14 +4,15 @@
 use Prim.Native.Nat.{ℕ, _*_, _≤_, _<_}
 use mathlib.Core.Path.{_≡_}
 use mathlib.Core.Bool.{true}
-use mathlib.Core.List.{List}
+use mathlib.Core.List.{List, _∷_}
 use mathlib.Core.Logic.{_≢_}
 use lib.ListN.{length, take, replicate}
+use Rattle.frame_queues.specs.Asked.{askedOf}
 use Rattle.frame.specs.Card.{numberOf}
 use Rattle.frame.specs.declared.Address.{Address}
 use Rattle.frame_range.specs.Fits.{isIndividual}
 use Rattle.box_calls.specs.Advance.{advanceOf}
-use Rattle.box_calls.specs.Box.{freshOf, registerOf, deregisterOf, tickOf}
+use Rattle.box_calls.specs.Box.{freshOf, registerOf, deregisterOf, reportOf, tickOf}
 use Rattle.box_calls.specs.declared.Answer.{Answer}
 use Rattle.box_calls.specs.declared.FloorBox.{FloorBox}
 use Rattle.box_laws.specs.Stated as core
@@ -34,6 +35,8 @@ use Rattle.face_pair.specs.Head as head
 -- THE BOX
 pub data BoxCall : Type 0 where
   fresh register deregister tick : box.Lent → BoxCall
+  -- how many queue sets, and their octets
+  report : ℕ → List ℕ → box.Lent → BoxCall
   hear : List ℕ → ℕ → box.Lent → BoxCall
   -- by so many ticks, with the memory for the number made
   advance : ℕ → List ℕ → box.Lent → BoxCall
@@ -43,6 +46,7 @@ lentBox (fresh l) = l
 lentBox (register l) = l
 lentBox (deregister l) = l
 lentBox (tick l) = l
+lentBox (report number sets l) = l
 lentBox (hear os random l) = l
 lentBox (advance n made l) = l
 
@@ -52,6 +56,7 @@ Handed (fresh l) = Unit {0}
 Handed (register l) = Unit {0}
 Handed (deregister l) = Unit {0}
 Handed (tick l) = Unit {0}
+Handed (report number sets l) = areOctets (number ∷ sets) ≡ true
 Handed (hear os random l) = areOctets os ≡ true
 Handed (advance n made l) = 1 ≤ length made
 
@@ -62,6 +67,7 @@ module _ (A : Address) where
   coreOf (register l) b = registerOf b
   coreOf (deregister l) b = deregisterOf b
   coreOf (tick l) b = tickOf b
+  coreOf (report number sets l) b = reportOf (askedOf number sets) b
   coreOf (hear os random l) b = heardOf os random b
   coreOf (advance n made l) b = advanceOf b n .answer
 
@@ -71,6 +77,7 @@ module _ (A : Address) where
   boxLeft block (register l) = boxCall registerOf block (l .frames) (l .reply)
   boxLeft block (deregister l) = boxCall deregisterOf block (l .frames) (l .reply)
   boxLeft block (tick l) = boxCall tickOf block (l .frames) (l .reply)
+  boxLeft block (report number sets l) = boxCall (reportOf (askedOf number sets)) block (l .frames) (l .reply)
   boxLeft block (hear os random l) = boxCall (heardOf os random) block (l .frames) (l .reply)
   boxLeft block (advance n made l) = advanceCall n block (l .frames) (l .reply) made .call
 
@@ -133,7 +140,7 @@ pub record HeadPromise (w : head.Words) : Type 0 where
   pub noise : (link : ℕ) (os : List ℕ) (l : head.Lent) → numberOf (readOf os .reply) ≢ 0
       → head.answered (headface.heardOf link os (w .head) (w .links) (l .output) (l .reply)) .next ≡ w
   pub never : (c : head.Asked) → head.asked w c .reply ≢ 13
-  pub ticks : (l : head.Lent) → 5 ≤ length (l .reply) → 60 * linksIn (length (w .links)) ≤ length (l .output)
+  pub ticks : (l : head.Lent) → 10 ≤ length (l .reply) → 60 * linksIn (length (w .links)) ≤ length (l .output)
       → head.served w Call.Tick l .number ≡ 0
 
 unfoldable pub HeadRuns : Type 0

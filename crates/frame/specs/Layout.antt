@@ -5,6 +5,7 @@ use mathlib.Core.Bool.{Bool, true, false, cond}
 use mathlib.Core.List.{List, [], _∷_, _++_}
 use lib.ListN.{length, take, replicate}
 use Rattle.octets.specs.Octets.{bytes}
+use Rattle.frame_queues.specs.Queues.{usedOf, fortyOf}
 use Rattle.frame.specs.declared.Grant.{Grant}
 use Rattle.frame.specs.declared.Grants.{Grants}
 use Rattle.frame.specs.declared.Grants.the-variants.{None, One, Two, Three, Four}
@@ -29,7 +30,7 @@ frameOf destination source opcode timestamp body =
 abbrev pub opcodeOf : Body → ℕ
 opcodeOf (Gate grants) = 0x0002
 opcodeOf (Discovery grant sync) = 0x0002
-opcodeOf Report = 0x0003
+opcodeOf (Report sets) = 0x0003
 opcodeOf (RegisterReq flag pending) = 0x0004
 opcodeOf (Register port flag sync pending) = 0x0005
 opcodeOf (RegisterAck flag port sync) = 0x0006
@@ -84,8 +85,8 @@ unfoldable pub bodyOctets : Body → List ℕ
 -- R31, R38
 bodyOctets (Gate grants) = gateOctets false (listed grants)
 bodyOctets (Discovery grant sync) = gateOctets true (grant ∷ []) ++ bytes 2 (sync .0)
--- R32, R41
-bodyOctets Report = bytes 1 0
+-- R32
+bodyOctets (Report sets) = take (usedOf (fortyOf sets)) (fortyOf sets)
 -- R33
 bodyOctets (RegisterReq flag pending) = bytes 1 (registerReqFlag flag) ++ bytes 1 pending
 -- R34

@@ -1,10 +1,11 @@
--- Rules R45 to R48, R237: which messages are in range, those that have a frame. A number is as long as its field.
+-- Rules R45 to R48, R237, R241: which messages are in range, those that have a frame. A number is as long as its field.
 -- Assumes nothing.
 use Prim.Native.Nat.{ℕ, _/_, _%_, _^_, _<_}
 use mathlib.Core.Path.{_≡_}
 use mathlib.Core.Bool.{Bool, true, _&&_}
 use mathlib.Core.List.{List, [], _∷_}
 use lib.Dec.{eqb, leb, ltb}
+use Rattle.frame_queues.specs.Queues.{SetsTyped, SetsFit}
 use Rattle.frame.specs.Layout.{listed}
 use Rattle.frame.specs.declared.Grant.{Grant}
 use Rattle.frame.specs.declared.Body.{Body}
@@ -25,7 +26,7 @@ GrantsFit (g ∷ gs) = GrantFits g × GrantsFit gs
 abbrev pub BodyFits : Body → Type 0
 BodyFits (Gate grants) = GrantsFit (listed grants)
 BodyFits (Discovery grant sync) = GrantFits grant × (sync .0 < 2 ^ 16)
-BodyFits Report = Unit {0}
+BodyFits (Report sets) = SetsFit sets
 BodyFits (RegisterReq flag pending) = pending < 2 ^ 8
 BodyFits (Register port flag sync pending) = (port < 2 ^ 16) × (sync .0 < 2 ^ 16) × (pending < 2 ^ 8)
 BodyFits (RegisterAck flag port sync) = (port < 2 ^ 16) × (sync .0 < 2 ^ 16)
@@ -39,7 +40,7 @@ pub record Valid (m : Message) : Type 0 where
   pub timestamp : m .timestamp .0 < 2 ^ 32
   pub body : BodyFits (m .body)
 
--- what the types of the fields see to by themselves: all but the addresses, the lengths and the sync times
+-- what the types of the fields see to by themselves: all but the addresses, the lengths, the sync times and where queue sets end
 abbrev pub GrantTyped : Grant → Type 0
 GrantTyped g = g .start .0 < 2 ^ 32
 
@@ -50,7 +51,7 @@ GrantsTyped (g ∷ gs) = GrantTyped g × GrantsTyped gs
 abbrev pub BodyTyped : Body → Type 0
 BodyTyped (Gate grants) = GrantsTyped (listed grants)
 BodyTyped (Discovery grant sync) = GrantTyped grant
-BodyTyped Report = Unit {0}
+BodyTyped (Report sets) = SetsTyped sets
 BodyTyped (RegisterReq flag pending) = pending < 2 ^ 8
 BodyTyped (Register port flag sync pending) = (port < 2 ^ 16) × (pending < 2 ^ 8)
 BodyTyped (RegisterAck flag port sync) = port < 2 ^ 16

@@ -5,8 +5,9 @@ use mathlib.Core.Path.{_≡_}
 use mathlib.Core.Bool.{Bool, false, cond, _&&_, _||_}
 use mathlib.Core.List.{List, [], _∷_}
 use lib.Dec.{eqb, leb}
-use lib.ListN.{length}
+use lib.ListN.{length, drop}
 use Rattle.octets.specs.Octets.{fieldOf}
+use Rattle.frame_queues.specs.Queues.{usedOf, noSets}
 use Rattle.frame.specs.Card.{Test, _unless_, answerOf}
 use Rattle.frame.specs.Layout.{bodyOctets, encode, zeroPad}
 use Rattle.frame.specs.Range.{individualIn, Valid}
@@ -32,7 +33,7 @@ bodyInRange opcode l =
     -- GATE
     cond (eqb opcode 2) (gateInRange (fieldOf l 20 1))
     -- R41
-    (cond (eqb opcode 3) (oneOf (fieldOf l 20 1) (0 ∷ []))
+    (cond (eqb opcode 3) (leb (usedOf (drop 20 l)) 40)
     -- R42
     (cond (eqb opcode 4) (oneOf (fieldOf l 20 1) (1 ∷ 3 ∷ []))
     -- R43: after the port
@@ -63,7 +64,7 @@ abbrev pub refusal : Reply → Reading
 refusal r =
     record {
       reply = r;
-      message = record { destination = record { 0 = 0 }; source = record { 0 = 0 }; timestamp = record { 0 = 0 }; body = Report };
+      message = record { destination = record { 0 = 0 }; source = record { 0 = 0 }; timestamp = record { 0 = 0 }; body = Report noSets };
     }
 
 -- r is the answer to l

@@ -8,6 +8,6 @@ abbrev pub goesToHead : Body → Bool
 goesToHead (Gate grants) = false
 goesToHead (Discovery grant sync) = false
 goesToHead (Register port flag sync pending) = false
-goesToHead Report = true
+goesToHead (Report sets) = true
 goesToHead (RegisterReq flag pending) = true
 goesToHead (RegisterAck flag port sync) = true

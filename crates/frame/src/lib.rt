@@ -5,6 +5,7 @@ ghost use Rattle.frame.specs.Ways.{goesToHead};
 ghost use Rattle.frame.specs.Layout.{registerReqFlag, registerFlag, registerAckFlag};
 use clock::Count;
 use clock::Quanta;
+use frame_queues::Sets;
 
 // 48 bits, as a number.
 pub struct Address(pub u64);
@@ -91,7 +92,7 @@ pub enum Body {
         grant: Grant,
         sync: Quanta,
     },
-    Report,
+    Report(Sets),
     RegisterReq {
         flag: RegisterReqFlag,
         pending: u8,
@@ -128,7 +129,7 @@ impl Body {
         match self {
             Body::Gate(_) => false,
             Body::Discovery { grant: _, sync: _ } => false,
-            Body::Report => true,
+            Body::Report(_) => true,
             Body::RegisterReq {
                 flag: _,
                 pending: _,

@@ -1,9 +1,10 @@
--- Rules R45 to R48, R73, R237: whether a message is in range, as a test; which addresses are individual.
+-- Rules R45 to R48, R73, R237, R241: whether a message is in range, as a test; which addresses are individual.
 -- Assumes nothing.
 use mathlib.Core.Bool.{Bool, true, _&&_}
 use mathlib.Core.List.{List, [], _∷_}
 use lib.Dec.{leb}
 use Rattle.clock.specs.Numbers.{fits}
+use Rattle.frame_queues.specs.Queues.{fitsSets}
 use Rattle.frame.specs.Layout.{listed}
 use Rattle.frame.specs.Range.{individualIn}
 use Rattle.frame.specs.declared.Address.{Address}
@@ -29,7 +30,7 @@ fitsAll t (g ∷ gs) = fitsAll (t && fitsGrant g) gs
 abbrev pub fitsBody : Body → Bool
 fitsBody (Gate grants) = fitsAll true (listed grants)
 fitsBody (Discovery grant sync) = fitsGrant grant && fits sync
-fitsBody Report = true
+fitsBody (Report sets) = fitsSets sets
 fitsBody (RegisterReq flag pending) = true
 fitsBody (Register port flag sync pending) = fits sync
 fitsBody (RegisterAck flag port sync) = fits sync

@@ -8,6 +8,7 @@ use native.Mathlib.Omega.{arith}
 use borrow.Author.Tests.{eqb-true, leb-true, ltb-true, le-leb}
 use lib.Dec.{eqb, leb, ltb}
 use Rattle.clock.specs.Numbers.{most, fits}
+use Rattle.frame_queues.specs.Laws.{sets-fit, fit-sets}
 use Rattle.frame.specs.Layout.{listed}
 use Rattle.frame.specs.Range.{individualIn, GrantsFit, BodyFits, Valid, GrantsTyped, BodyTyped, Typed}
 use Rattle.frame.specs.declared.Address.{Address}
@@ -54,7 +55,7 @@ body-fit (Gate g) h e = all-fit (listed g) true h e .1
 body-fit (Discovery g sync) h e =
     let p = and-eq-true-iff (fitsGrant g) (fits sync) .0 e in
     ((h, short (g .length .0) (p .0)), short (sync .0) (p .1))
-body-fit Report h e = tt
+body-fit (Report sets) h e = sets-fit sets h e
 body-fit (RegisterReq flag pending) h e = h
 body-fit (Register port flag sync pending) h e = (h .0, short (sync .0) e, h .1)
 body-fit (RegisterAck flag port sync) h e = (h, short (sync .0) e)
@@ -62,7 +63,7 @@ body-fit (RegisterAck flag port sync) h e = (h, short (sync .0) e)
 fit-body : (b : Body) → BodyFits b → fitsBody b ≡ true
 fit-body (Gate g) h = fit-all (listed g) true refl h
 fit-body (Discovery g sync) h = both (short-of (g .length .0) (h .0 .1)) (short-of (sync .0) (h .1))
-fit-body Report h = refl
+fit-body (Report sets) h = fit-sets sets h
 fit-body (RegisterReq flag pending) h = refl
 fit-body (Register port flag sync pending) h = short-of (sync .0) (h .1)
 fit-body (RegisterAck flag port sync) h = short-of (sync .0) (h .1)

@@ -49,7 +49,7 @@ fn body(b: Body) -> bool
     match b {
         Body::Gate(g) => grants(g),
         Body::Discovery { grant: g, sync } => grant(g) & sync.fits(),
-        Body::Report => true,
+        Body::Report(s) => s.fits(),
         Body::RegisterReq {
             flag: _,
             pending: _,

@@ -11,12 +11,14 @@ use lib.ListN.{length, take, drop, replicate, take-append-drop, length-append, l
 use lib.Seq.{take-at}
 use Rattle.laws.specs.Cases.{either}
 use Rattle.octets.specs.Octets.{onto, bytes, fieldOf, Octets}
-use Rattle.octets.specs.Laws.{length-part, bytes-field, field-below, join, join-front}
+use Rattle.octets.specs.Laws.{length-part, octets-drop, bytes-field, field-below, join, join-front}
+use Rattle.frame_queues.specs.Queues.{usedOf, cutOf, fortyOf, setsOf}
+use Rattle.frame_queues.specs.Laws.{cleared-length, cleared-octets, used-cut, cut-front, cut-fits, forty-sets}
 use Rattle.frame.specs.Card.{numberOf}
 use Rattle.frame.specs.Layout.{headerOf, frameOf, gateOctets, registerReqFlag, registerFlag, registerAckFlag, opcodeOf, bodyOctets, encode, zeroPad}
 use Rattle.frame.specs.Range.{BodyFits}
 use Rattle.frame.specs.Reading.{oneOf, gateInRange, bodyInRange, sourceInRange, Carries}
-use Rattle.frame_reader.specs.Decode.{bit, quantaAt, grantAt, gateOf, gateAt, registerReqAt, registerAt, registerAckAt, bodyAt, messageAt, readControl, readOf}
+use Rattle.frame_reader.specs.Decode.{bit, quantaAt, grantAt, gateOf, gateAt, reportAt, registerReqAt, registerAt, registerAckAt, bodyAt, messageAt, readControl, readOf}
 use Rattle.frame_reader.specs.Flags.{few, registerReqFlagOf, registerFlagOf, registerAckFlagOf}
 use Rattle.frame_reader.proofs.Forth.{body-short, reads-padded}
 use Rattle.frame_reader.proofs.Gate.{few-listed, grantsFrom, four-from, take-from, length-from, fits-from, octets-from, Ranged, ranged, octet-back}
@@ -24,7 +26,7 @@ use Rattle.frame.specs.declared.RegisterReqFlag.{RegisterReqFlag}
 use Rattle.frame.specs.declared.RegisterFlag.{RegisterFlag}
 use Rattle.frame.specs.declared.RegisterAckFlag.{RegisterAckFlag}
 use Rattle.frame.specs.declared.Body.{Body}
-use Rattle.frame.specs.declared.Body.the-variants.{Gate, Discovery, Report}
+use Rattle.frame.specs.declared.Body.the-variants.{Gate, Discovery}
 use Rattle.frame.specs.declared.Message.{Message}
 use Rattle.frame.specs.declared.Reply.{Reply}
 use Rattle.frame.specs.declared.Reply.the-variants.{Done, Size, Kind, Opcode, Range}
@@ -125,16 +127,20 @@ module _ (l : List ℕ) (h : Octets l) (sixty : length l ≡ 60) where
         fits = (bound 21 2 (omega arith), bound 23 2 (omega arith));
       }
 
-  report-whole : oneOf (fieldOf l 20 1) (0 ∷ []) ≡ true → Whole l 3 Report
-  unfolding bodyOctets
+  report-whole : leb (usedOf (drop 20 l)) 40 ≡ true → Whole l 3 (reportAt l)
+  unfolding bodyOctets reportAt
   report-whole t =
-      let none : fieldOf l 20 1 ≡ 0 = only-one (fieldOf l 20 1) 0 t in
+      let o = drop 20 l in
+      let forty : length o ≡ 40 = simp length-drop (omega arith) in
+      let room : usedOf o ≤ 40 = leb-true (usedOf o) 40 t in
+      let octets = cleared-octets (usedOf o) o (octets-drop 20 l h) in
+      let back : fortyOf (setsOf (cutOf o)) ≡ cutOf o = forty-sets (cutOf o) octets (cleared-length (usedOf o) o ∙ forty) in
       record {
         opcode = refl;
-        used = 1;
+        used = usedOf o;
         within = omega arith;
-        octets = rw (← none) (piece 20 1 (omega arith));
-        fits = tt;
+        octets = rw (back, used-cut o forty room) (cut-front o forty room);
+        fits = cut-fits o (octets-drop 20 l h) forty room;
       }
 
   -- a GATE: its first octet, and the grants behind it

@@ -5,18 +5,22 @@ use mathlib.Core.Path.{_≡_, refl, sym, _∙_}
 use mathlib.Core.Bool.{Bool, true, false, cond, _&&_, true≢false}
 use mathlib.Core.List.{List, [], _∷_, _++_}
 use native.Mathlib.Omega.{arith}
+use borrow.Author.Tests.{le-leb}
 use lib.Dec.{leb}
-use lib.ListN.{length, drop, replicate, length-append, length-replicate}
+use lib.ListN.{length, take, drop, replicate, length-append, length-take, length-replicate}
 use Rattle.octets.specs.Octets.{onto, bytes, value, fieldOf}
 use Rattle.octets.specs.Laws.{value-bytes}
+use Rattle.frame_queues.specs.Queues.{usedOf, fortyOf, SetsFit}
+use Rattle.frame_queues.specs.Laws.{used-padded, cut-padded, fit-cut, forty-length, sets-forty}
 use Rattle.frame.specs.Layout.{headerOf, listed, firstOctet, perGrant, registerReqFlag, registerFlag, registerAckFlag, opcodeOf, bodyOctets, encode}
 use Rattle.frame.specs.Range.{individualIn, GrantFits, GrantsFit, BodyFits, Valid}
 use Rattle.frame.specs.Reading.{oneOf, bodyInRange, sourceInRange}
 use Rattle.frame_range.specs.Laws.{individual-parts}
-use Rattle.frame_reader.specs.Decode.{bit, grantAt, quantaAt, gateOf, gateAt, registerReqAt, registerAt, registerAckAt, bodyAt, messageAt, readControl, readOf}
+use Rattle.frame_reader.specs.Decode.{bit, grantAt, quantaAt, gateOf, gateAt, reportAt, registerReqAt, registerAt, registerAckAt, bodyAt, messageAt, readControl, readOf}
 use Rattle.frame_reader.specs.Flags.{few, registerReqFlagOf, registerFlagOf, registerAckFlagOf}
 use Rattle.frame_reader.proofs.Gate.{listed-few, listed-short, length-grants, four-from, take-from, reads-from, octet-number, octet-discovery, octet-force, octet-fits, octet-in-range}
 use Rattle.clock.specs.declared.Quanta.{Quanta}
+use Rattle.frame_queues.specs.declared.Sets.{Sets}
 use Rattle.frame.specs.declared.Grant.{Grant}
 use Rattle.frame.specs.declared.Grants.{Grants}
 use Rattle.frame.specs.declared.RegisterReqFlag.{RegisterReqFlag}
@@ -118,14 +122,30 @@ module _ (destination source timestamp : ℕ) (pad : List ℕ) where
       rw (octet-force true gs k) (only (reads-from gs l _ 21 (h, tt) refl)) in
       gate-reads l _ true gs k (h, tt) (first-octet true gs k) refl ∙ rw (first, value-bytes 2 (sync .0) s)
 
-  body-reads : (b : Body) → BodyFits b → bodyAt (opcodeOf b) (framed b) ≡ b
+  -- the sets of a REPORT are what stands before the pad, and the pad is cut
+  module _ (s : Sets) (h : SetsFit s) (forty : length (bodyOctets (Report s)) + length pad ≡ 40) where
+    report-reads : reportAt (framed (Report s)) ≡ Report s
+    unfolding reportAt bodyOctets onto
+    report-reads =
+        let o = fortyOf s in
+        let whole : length (take (usedOf o) o ++ pad) ≡ 40 = length-append (take (usedOf o) o) pad ∙ forty in
+        rw (cut-padded o pad (forty-length s) (h .room) whole, fit-cut s h, sets-forty s (h .typed))
+
+    report-ranged : bodyInRange 3 (framed (Report s)) ≡ true
+    unfolding bodyInRange bodyOctets onto
+    report-ranged =
+        let o = fortyOf s in
+        let same : usedOf (take (usedOf o) o ++ pad) ≡ usedOf o = used-padded o pad (omega (arith, h .room, forty-length s)) in
+        rw (same, le-leb (usedOf o) 40 (h .room))
+
+  body-reads : (b : Body) → BodyFits b → length (bodyOctets b) + length pad ≡ 40 → bodyAt (opcodeOf b) (framed b) ≡ b
   unfolding bodyAt bodyOctets registerReqAt registerAt registerAckAt onto
-  body-reads (Gate g) h = normal-reads g h
-  body-reads (Discovery g sync) h = discovery-reads g sync (h .0) (h .1)
-  body-reads Report h = refl
-  body-reads (RegisterReq flag pending) h =
+  body-reads (Gate g) h k = normal-reads g h
+  body-reads (Discovery g sync) h k = discovery-reads g sync (h .0) (h .1)
+  body-reads (Report s) h k = report-reads s h k
+  body-reads (RegisterReq flag pending) h k =
       rw (value-bytes 1 (registerReqFlag flag) (register-req-octet flag), register-req-reads flag, value-bytes 1 pending h)
-  body-reads (Register port flag sync pending) h =
+  body-reads (Register port flag sync pending) h k =
       rw (
         value-bytes 2 port (h .0),
         value-bytes 1 (registerFlag flag) (register-octet flag),
@@ -133,7 +153,7 @@ module _ (destination source timestamp : ℕ) (pad : List ℕ) where
         value-bytes 2 (sync .0) (h .1),
         value-bytes 1 pending (h .2),
       )
-  body-reads (RegisterAck flag port sync) h =
+  body-reads (RegisterAck flag port sync) h k =
       rw (
         value-bytes 1 (registerAckFlag flag) (register-ack-octet flag),
         register-ack-reads flag,
@@ -141,21 +161,21 @@ module _ (destination source timestamp : ℕ) (pad : List ℕ) where
         value-bytes 2 (sync .0) (h .1),
       )
 
-  body-ranged : (b : Body) → bodyInRange (opcodeOf b) (framed b) ≡ true
+  body-ranged : (b : Body) → BodyFits b → length (bodyOctets b) + length pad ≡ 40 → bodyInRange (opcodeOf b) (framed b) ≡ true
   unfolding bodyInRange bodyOctets onto
-  body-ranged (Gate g) =
+  body-ranged (Gate g) h f =
       let gs = listed g in
       let k : length gs ≤ 4 = listed-short g in
       rw (first-octet false gs k) (octet-in-range false gs k (λ e. absurd (true≢false (sym e))))
-  body-ranged (Discovery g sync) =
+  body-ranged (Discovery g sync) h f =
       let k : length (g ∷ []) ≤ 4 = omega arith in
       rw (first-octet true (g ∷ []) k) (octet-in-range true (g ∷ []) k (λ _. refl))
-  body-ranged Report = rw (value-bytes 1 0 (omega arith))
-  body-ranged (RegisterReq flag pending) =
+  body-ranged (Report s) h k = report-ranged s h k
+  body-ranged (RegisterReq flag pending) h k =
       rw (value-bytes 1 (registerReqFlag flag) (register-req-octet flag)) (register-req-ranged flag)
-  body-ranged (Register port flag sync pending) =
+  body-ranged (Register port flag sync pending) h k =
       rw (value-bytes 1 (registerFlag flag) (register-octet flag)) (register-ranged flag)
-  body-ranged (RegisterAck flag port sync) =
+  body-ranged (RegisterAck flag port sync) h k =
       rw (value-bytes 1 (registerAckFlag flag) (register-ack-octet flag)) (register-ack-ranged flag)
 
   source-ranged : individualIn source ≡ true → (b : Body) → sourceInRange (framed b) ≡ true
@@ -165,7 +185,7 @@ module _ (destination source timestamp : ℕ) (pad : List ℕ) where
 opcode-fits : (b : Body) → opcodeOf b < 2 ^ 16
 opcode-fits (Gate g) = omega arith
 opcode-fits (Discovery g sync) = omega arith
-opcode-fits Report = omega arith
+opcode-fits (Report s) = omega arith
 opcode-fits (RegisterReq flag pending) = omega arith
 opcode-fits (Register port flag sync pending) = omega arith
 opcode-fits (RegisterAck flag port sync) = omega arith
@@ -173,7 +193,7 @@ opcode-fits (RegisterAck flag port sync) = omega arith
 opcode-known : (b : Body) → (leb 2 (opcodeOf b) && leb (opcodeOf b) 6) ≡ true
 opcode-known (Gate g) = refl
 opcode-known (Discovery g sync) = refl
-opcode-known Report = refl
+opcode-known (Report s) = refl
 opcode-known (RegisterReq flag pending) = refl
 opcode-known (Register port flag sync pending) = refl
 opcode-known (RegisterAck flag port sync) = refl
@@ -182,7 +202,7 @@ pub body-short : (b : Body) → length (bodyOctets b) ≤ 40
 unfolding bodyOctets onto
 body-short (Gate g) = omega (arith, length-grants (listed g), listed-short g)
 body-short (Discovery g sync) = omega arith
-body-short Report = omega arith
+body-short (Report s) = simp length-take (omega (arith, forty-length s))
 body-short (RegisterReq flag pending) = omega arith
 body-short (Register port flag sync pending) = omega arith
 body-short (RegisterAck flag port sync) = omega arith
@@ -200,8 +220,8 @@ reads-padded m pad v forty =
       value-bytes 2 (opcodeOf b) (opcode-fits b),
       opcode-known b,
       source-ranged (m .destination .0) (m .source .0) (m .timestamp .0) pad (v .source) b,
-      body-ranged (m .destination .0) (m .source .0) (m .timestamp .0) pad b,
-      body-reads (m .destination .0) (m .source .0) (m .timestamp .0) pad b (v .body),
+      body-ranged (m .destination .0) (m .source .0) (m .timestamp .0) pad b (v .body) forty,
+      body-reads (m .destination .0) (m .source .0) (m .timestamp .0) pad b (v .body) forty,
       value-bytes 6 (m .destination .0) (v .destination),
       value-bytes 6 (m .source .0) (individual-parts (m .source .0) (v .source) .0),
       value-bytes 4 (m .timestamp .0) (v .timestamp),

@@ -5,8 +5,9 @@ use Prim.Native.Nat.{ℕ, _+_, _/_, _%_}
 use mathlib.Core.Bool.{Bool, cond, _&&_}
 use mathlib.Core.List.{List, [], _∷_}
 use lib.Dec.{eqb, leb}
-use lib.ListN.{length, take}
+use lib.ListN.{length, take, drop}
 use Rattle.octets.specs.Octets.{fieldOf}
+use Rattle.frame_queues.specs.Queues.{cutOf, setsOf}
 use Rattle.frame.specs.Reading.{bodyInRange, sourceInRange, refusal}
 use Rattle.clock.specs.declared.Quanta.{Quanta}
 use Rattle.frame.specs.declared.Grant.{Grant}
@@ -42,6 +43,10 @@ gateAt l =
     (grantAt l 39 (bit f 128))
     (quantaAt l 27)
 
+-- the sets of a REPORT: the octets that they take, and zeros
+unfoldable pub reportAt : List ℕ → Body
+reportAt l = Report (setsOf (cutOf (drop 20 l)))
+
 unfoldable pub registerReqAt : List ℕ → Body
 registerReqAt l = RegisterReq (registerReqFlagOf (fieldOf l 20 1)) (fieldOf l 21 1)
 
@@ -55,7 +60,7 @@ registerAckAt l = RegisterAck (registerAckFlagOf (fieldOf l 20 1)) (fieldOf l 21
 unfoldable pub bodyAt : ℕ → List ℕ → Body
 bodyAt opcode l =
     cond (eqb opcode 2) (gateAt l)
-    (cond (eqb opcode 3) Report
+    (cond (eqb opcode 3) (reportAt l)
     (cond (eqb opcode 4) (registerReqAt l)
     (cond (eqb opcode 5) (registerAt l)
     (registerAckAt l))))

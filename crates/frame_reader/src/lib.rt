@@ -5,7 +5,7 @@ ghost use mathlib.Core.List.{[], _∷_};
 ghost use lib.ListN.{length, take};
 ghost use Rattle.frame.specs.Reading.{gateInRange, bodyInRange, sourceInRange, refusal};
 ghost use Rattle.octets.specs.Octets.{fieldOf};
-ghost use Rattle.frame_reader.specs.Decode.{quantaAt, grantAt, gateOf, gateAt, registerReqAt, registerAt, registerAckAt, bodyAt, messageAt, readControl, readOf};
+ghost use Rattle.frame_reader.specs.Decode.{quantaAt, grantAt, gateOf, gateAt, reportAt, registerReqAt, registerAt, registerAckAt, bodyAt, messageAt, readControl, readOf};
 ghost use Rattle.frame_reader.specs.Flags.{few, registerReqFlagOf, registerFlagOf, registerAckFlagOf};
 use clock::Count;
 use clock::Quanta;
@@ -19,6 +19,7 @@ use frame::RegisterAckFlag;
 use frame::RegisterFlag;
 use frame::RegisterReqFlag;
 use frame::Reply;
+use frame_queues::Sets;
 
 // The number in the n octets from `at`.
 fn field(s: &[u8], at: usize, n: usize) -> u64
@@ -103,6 +104,15 @@ fn gate_at(s: &[u8]) -> Body
     gate_of(f, a, b, c, d, quanta_at(s, 27))
 }
 
+fn report_at(s: &[u8]) -> Body
+    requires { ⌜ length (now s) ≡ 60 ⌝ }
+    ensures { λ r. ⌜ r ≡ reportAt (now (s .entry)) ⌝ }
+{
+    let body = &s[20..];
+    let sets = Sets::of(body);
+    Body::Report(sets.cut(frame_queues::used(body)))
+}
+
 fn register_req_flag(f: u64) -> RegisterReqFlag
     ensures { λ r. ⌜ r ≡ registerReqFlagOf f ⌝ }
 {
@@ -181,7 +191,7 @@ fn body_in_range(s: &[u8], opcode: u64) -> bool
         return gate_in_range(first);
     }
     if opcode == Body::REPORT {
-        return first == 0;
+        return frame_queues::used(&s[20..]) <= 40;
     }
     if opcode == Body::REGISTER_REQ {
         return (first == 1) | (first == 3);
@@ -210,7 +220,7 @@ fn body_at(s: &[u8], opcode: u64) -> Body
         return gate_at(s);
     }
     if opcode == Body::REPORT {
-        return Body::Report;
+        return report_at(s);
     }
     if opcode == Body::REGISTER_REQ {
         return register_req_at(s);
@@ -244,7 +254,7 @@ fn refused(reply: Reply) -> Reading
         destination: Address(0),
         source: Address(0),
         timestamp: Count(0),
-        body: Body::Report,
+        body: Body::Report(Sets::NONE),
     };
     Reading { reply, message }
 }

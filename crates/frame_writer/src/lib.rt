@@ -1,13 +1,14 @@
 // The writer of control frames: it answers every message.
 ghost use mathlib.Core.Path.{_≡_};
-ghost use mathlib.Core.List.{[], _∷_};
+ghost use mathlib.Core.List.{[], _∷_, _++_};
 ghost use mathlib.Core.Bool.{true, false, cond};
 ghost use Prim.Native.Nat.{_+_, _≤_, _<_};
-ghost use lib.ListN.{length};
+ghost use lib.ListN.{length, take};
 ghost use Rattle.octets.specs.Octets.{bytes};
+ghost use Rattle.octets.specs.Over.{over};
 ghost use Rattle.frame.specs.Layout.{listed, forceBits, firstOctet, gateOctets, opcodeOf, bodyOctets};
 ghost use Rattle.frame_writer.specs.Steps.{headed, grantOver};
-ghost use Rattle.frame_writer.specs.Write.{over, writeOf};
+ghost use Rattle.frame_writer.specs.Write.{writeOf};
 use clock::Count;
 use clock::Quanta;
 use frame::Address;
@@ -20,6 +21,7 @@ use frame::RegisterFlag;
 use frame::RegisterReqFlag;
 use frame::Reply;
 use frame::Writing;
+use frame_queues::Sets;
 
 // What a frame has before its body, but for type and opcode.
 pub struct Header {
@@ -136,6 +138,24 @@ fn write_discovery(h: Header, grant: Grant, sync: Quanta) -> [u8; 60]
     lay(lay_grant(o, 21, grant), 27, 2, sync.0 as u64)
 }
 
+// A whole body, behind the header.
+fn lay_body(out: [u8; 60], body: [u8; 40]) -> [u8; 60]
+    ensures { λ r. ⌜ r ≡ take 20 out ++ body ⌝ }
+{
+    let mut o = out;
+    bytes::copy(&body, &mut o[20..]);
+    o
+}
+
+fn write_report(h: Header, s: Sets) -> [u8; 60]
+    ensures { λ r. ⌜ r ≡ headed h 3 (bodyOctets (Body.Report s)) ⌝ }
+{
+    let o = s.octets();
+    let u = frame_queues::used(&o);
+    let cut = s.cut(u);
+    lay_body(begin(h, Body::REPORT), cut.octets())
+}
+
 fn write_register_req(h: Header, flag: RegisterReqFlag, pending: u8) -> [u8; 60]
     ensures { λ r. ⌜ r ≡ headed h 4 (bodyOctets (Body.RegisterReq flag pending)) ⌝ }
 {
@@ -166,7 +186,7 @@ fn write_body(h: Header, body: Body) -> [u8; 60]
     match body {
         Body::Gate(g) => write_gate(h, g),
         Body::Discovery { grant, sync } => write_discovery(h, grant, sync),
-        Body::Report => begin(h, Body::REPORT),
+        Body::Report(s) => write_report(h, s),
         Body::RegisterReq { flag, pending } => write_register_req(h, flag, pending),
         Body::Register {
             port,

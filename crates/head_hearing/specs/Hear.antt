@@ -36,7 +36,7 @@ abbrev pub isNewcomer : Body → Bool
 isNewcomer (Gate grants) = false
 isNewcomer (Discovery grant sync) = false
 isNewcomer (Register port flag sync pending) = false
-isNewcomer Report = false
+isNewcomer (Report sets) = false
 isNewcomer (RegisterReq flag pending) = asksToRegister flag
 isNewcomer (RegisterAck flag port sync) = false
 
@@ -79,8 +79,8 @@ requested RegisterReqFlag.Register h l link trip = telling h Event.Nothing Kind.
 requested RegisterReqFlag.Deregister h l link trip = onRegistered Change.Deregister Kind.Dropped h l link trip
 
 abbrev pub heardOf : Body → Head → Link → ℕ → Quanta → Plan
--- R185
-heardOf Report h l link trip = onRegistered Change.Report Kind.Report h l link trip
+-- R151, R185
+heardOf (Report sets) h l link trip = onRegistered Change.Report (Kind.Report sets) h l link trip
 heardOf (RegisterReq flag pending) h l link trip = requested flag h l link trip
 heardOf (RegisterAck flag port sync) h l link trip = confirmed flag h l link trip
 -- R176: never accepted

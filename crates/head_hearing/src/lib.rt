@@ -31,7 +31,7 @@ fn is_newcomer(body: Body) -> bool
     match body {
         Body::Gate(_) => false,
         Body::Discovery { grant: _, sync: _ } => false,
-        Body::Report => false,
+        Body::Report(_) => false,
         Body::RegisterReq { flag, pending: _ } => asks_to_register(flag),
         Body::Register {
             port: _,
@@ -133,7 +133,9 @@ fn heard(head: Head, l: Link, link: usize, trip: Quanta, body: Body) -> Plan
     match body {
         Body::Gate(_) => Plan::accepted(head, Event::Nothing),
         Body::Discovery { grant: _, sync: _ } => Plan::accepted(head, Event::Nothing),
-        Body::Report => on_registered(head, l, link, trip, Change::Report, Kind::Report),
+        Body::Report(sets) => {
+            on_registered(head, l, link, trip, Change::Report, Kind::Report(sets))
+        }
         Body::RegisterReq { flag, pending: _ } => requested(head, l, link, trip, flag),
         Body::Register {
             port: _,

@@ -37,7 +37,7 @@ isNone kind.Nothing = true
 isNone kind.Request = false
 isNone kind.Registered = false
 isNone kind.Dropped = false
-isNone kind.Report = false
+isNone (kind.Report sets) = false
 
 -- neither a frame nor a notice
 unfoldable pub isSilent : Served → Bool

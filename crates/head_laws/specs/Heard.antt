@@ -80,7 +80,7 @@ module _ (h : Head) (l : Link) (link : ℕ) (trip : Quanta) where
   unfolding onLink
   heard (Gate grants) i = record { reply = refl; head = refl; lead = refl; event = tt }
   heard (Discovery grant sync) i = record { reply = refl; head = refl; lead = refl; event = tt }
-  heard Report i = registered-heard Change.Report Kind.Report (λ r. r)
+  heard (Report sets) i = registered-heard Change.Report (Kind.Report sets) (λ r. r)
   heard (RegisterReq flag pending) i = requested-heard flag
   heard (Register port flag sync pending) i = record { reply = refl; head = refl; lead = refl; event = tt }
   heard (RegisterAck flag port sync) i = confirmed-heard flag i

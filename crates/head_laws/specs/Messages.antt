@@ -8,6 +8,7 @@ use Rattle.clock.specs.Counts.{roundTrip}
 use Rattle.clock.specs.Numbers.{watchdog}
 use Rattle.clock.specs.declared.Quanta.{Quanta}
 use Rattle.frame.specs.declared.Body.{Body}
+use Rattle.frame_queues.specs.declared.Sets.{Sets}
 use Rattle.frame.specs.declared.Body.the-variants.{Gate, Report, RegisterReq, Register, RegisterAck}
 use Rattle.frame.specs.declared.Grants.the-variants.{None}
 use Rattle.frame.specs.declared.Message.{Message}
@@ -101,11 +102,11 @@ module _ (h : Head) (xs : List Link) (os : List ℕ) (link : ℕ) (m : Message) 
     unfolding onRegistered
     leave-heard pending e i = changes (RegisterReq RegisterReqFlag.Deregister pending) Change.Deregister Kind.Dropped e refl (rw i)
 
-    -- REPORT on a registered link restarts its watchdog
-    pub report-heard : m .body ≡ Report → isRegistered (l .state) ≡ true
-        → Does h xs r os link (withWatchdog l (record { left = watchdog })) [] (told Kind.Report link trip)
+    -- REPORT on a registered link restarts its watchdog, and its sets are told
+    pub report-heard : (sets : Sets) → m .body ≡ Report sets → isRegistered (l .state) ≡ true
+        → Does h xs r os link (withWatchdog l (record { left = watchdog })) [] (told (Kind.Report sets) link trip)
     unfolding onRegistered
-    report-heard e i = changes Report Change.Report Kind.Report e refl (rw i)
+    report-heard sets e i = changes (Report sets) Change.Report (Kind.Report sets) e refl (rw i)
 
     -- R70, R187
     pub ack-passed : (flag : RegisterAckFlag) (port : ℕ) (sync : Quanta) → m .body ≡ RegisterAck flag port sync → isRegistered (l .state) ≡ true
@@ -118,6 +119,6 @@ module _ (h : Head) (xs : List Link) (os : List ℕ) (link : ℕ) (m : Message) 
     unfolding onRegistered
     leave-passed pending e w = passes (RegisterReq RegisterReqFlag.Deregister pending) quiet e (rw w)
 
-    pub report-passed : m .body ≡ Report → isRegistered (l .state) ≡ false → Leads h xs r os h [] quiet
+    pub report-passed : (sets : Sets) → m .body ≡ Report sets → isRegistered (l .state) ≡ false → Leads h xs r os h [] quiet
     unfolding onRegistered
-    report-passed e w = passes Report quiet e (rw w)
+    report-passed sets e w = passes (Report sets) quiet e (rw w)

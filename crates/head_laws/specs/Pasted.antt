@@ -15,7 +15,8 @@ use Rattle.frame.specs.Range.{Valid}
 use Rattle.frame.specs.declared.Message.{Message}
 use Rattle.frame_reader.proofs.Forth.{body-short}
 use Rattle.frame_writer.proofs.Page.{write-done}
-use Rattle.frame_writer.specs.Write.{over, writeOf}
+use Rattle.octets.specs.Over.{over}
+use Rattle.frame_writer.specs.Write.{writeOf}
 use Rattle.head_table.specs.Output.{Output, output, pasted}
 use Rattle.head_laws.specs.Stated.{encoded}
 

@@ -5,6 +5,7 @@ use clock::Quanta;
 use frame::Address;
 use frame::Body;
 use frame::Reply;
+use frame_queues::Sets;
 use head_links::Sent;
 use head_state::Head;
 use head_table::Event;
@@ -14,7 +15,7 @@ pub enum Kind {
     Request,
     Registered,
     Dropped,
-    Report,
+    Report(Sets),
 }
 
 pub struct Notice {

@@ -7,17 +7,19 @@ use native.Mathlib.Omega.{arith}
 use native.Mathlib.Nat.{not-suc-le-zero}
 use borrow.Author.Tests.{ltb-true}
 use lib.Dec.{ltb}
-use lib.ListN.{length, length-append, length-drop}
+use lib.ListN.{length, length-append, length-drop, length-take, length-replicate}
 use Rattle.laws.specs.Cases.{either}
 use Rattle.octets.specs.Octets.{onto}
 use Rattle.frame_range.specs.Fits.{fitsMessage}
+use Rattle.frame_queues.specs.Laws.{forty-length}
 use Rattle.frame.specs.Layout.{frameOf, opcodeOf, bodyOctets, encode}
 use Rattle.frame.specs.declared.Body.{Body}
 use Rattle.frame.specs.declared.Body.the-variants.{Gate, Discovery, Report, RegisterReq, Register, RegisterAck}
 use Rattle.frame.specs.declared.Grants.the-variants.{None, One, Two, Three, Four}
 use Rattle.frame.specs.declared.Message.{Message}
 use Rattle.frame.specs.declared.Writing.{Writing}
-use Rattle.frame_writer.specs.Write.{over, writeOf}
+use Rattle.octets.specs.Over.{over}
+use Rattle.frame_writer.specs.Write.{writeOf}
 use Rattle.head_links.specs.declared.Sent.{Sent}
 use Rattle.head_links.specs.declared.Sent.the-variants.{Nothing, To}
 use Rattle.head_table.specs.Events.{turnsOf}
@@ -34,7 +36,7 @@ sixty to from stamp (Gate (Two a b)) = refl
 sixty to from stamp (Gate (Three a b c)) = refl
 sixty to from stamp (Gate (Four a b c d)) = refl
 sixty to from stamp (Discovery a sync) = refl
-sixty to from stamp Report = refl
+sixty to from stamp (Report sets) = simp (length-append, length-replicate, length-take) (omega (arith, forty-length sets))
 sixty to from stamp (RegisterReq flag pending) = refl
 sixty to from stamp (Register port flag sync pending) = refl
 sixty to from stamp (RegisterAck flag port sync) = refl

@@ -8,7 +8,8 @@ use lib.ListN.{length}
 use Rattle.frame.specs.declared.Address.{Address}
 use Rattle.frame.specs.declared.Body.{Body}
 use Rattle.frame.specs.declared.Message.{Message}
-use Rattle.frame_writer.specs.Write.{over, writeOf}
+use Rattle.octets.specs.Over.{over}
+use Rattle.frame_writer.specs.Write.{writeOf}
 use Rattle.head_links.specs.declared.Link.{Link}
 use Rattle.head_links.specs.declared.Sent.{Sent}
 use Rattle.head_links.specs.declared.Sent.the-variants.{Nothing, To}

@@ -66,6 +66,11 @@ fn ask_of(name: &[u8], a: u64, b: u64) -> Call {
     }
 }
 
+// The client's report, which has more numbers than another call.
+pub fn is_report(name: &[u8]) -> bool {
+    words::place(name, b"report") == 0
+}
+
 // What is no message is a call of this program's own.
 pub fn named(name: &[u8], n: Numbers) -> Call {
     let of = n.of;

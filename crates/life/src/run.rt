@@ -42,6 +42,11 @@ fn hear(last: Answer, name: &[u8], n: Numbers) -> Answer {
     told(b.hear(messages::message(name, n), messages::random(n)))
 }
 
+fn report(last: Answer, n: Numbers) -> Answer {
+    let b = last.next;
+    told(b.report(messages::sets(n, 0)))
+}
+
 fn handed(next: FloorBox) -> Answer {
     out::text(b" ->");
     tell::tell_box(next);
@@ -189,6 +194,9 @@ fn named(last: Answer, name: &[u8], n: Numbers) -> Answer {
     }
     if messages::is_named(name) {
         return hear(last, name, n);
+    }
+    if calls::is_report(name) {
+        return report(last, n);
     }
     call(last, calls::named(name, n))
 }

@@ -3,11 +3,12 @@
 use Prim.Native.Nat.{ℕ, zero, suc, _+_, _-_, _*_, _/_, _%_, _^_, _≤_, _<_}
 use mathlib.Core.Path.{_≡_, refl, sym, ap, _∙_}
 use mathlib.Core.List.{List, [], _∷_, _++_, append-nil, append-assoc}
-use native.Mathlib.Nat.{add-mul, mul-assoc, mul-comm, add-assoc, pow-suc, pow-le-pow-right, add-zero, zero-add, not-suc-le-zero, le-refl}
+use native.Mathlib.Nat.{add-mul, mul-assoc, mul-comm, add-assoc, pow-suc, pow-le-pow-right, add-zero, zero-add, suc-add, not-suc-le-zero, le-of-suc-le-suc, le-refl}
 use native.Mathlib.Omega.{arith}
-use lib.ListN.{length, getD, take, drop, set, length-take, length-drop}
+use lib.ListN.{length, getD, take, drop, set, replicate, length-take, length-drop}
 use lib.Seq.{drop-cons, lt-length-set, getD-set-same, drop-set-lt, getD-drop, getD-take, take-add, drop-drop}
 use Rattle.octets.specs.Octets.{onto, bytes, valueFrom, value, fieldOf, Octets}
+use Rattle.octets.specs.Over.{over}
 
 -- one octet more: the number stays below the power for its octets
 pub grown : (v b n : ℕ) → v < 256 ^ n → b < 256 → v * 256 + b < 256 ^ suc n
@@ -77,6 +78,20 @@ value-from [] v = omega arith
 value-from (b ∷ l) v =
     value-from l (v * 256 + b) ∙ rw (pow-suc, value-from l (0 * 256 + b)) (spread v b (256 ^ length l) (value l))
 
+value-on : (v : ℕ) (a b : List ℕ) → valueFrom v (a ++ b) ≡ valueFrom (valueFrom v a) b
+unfolding valueFrom
+value-on v [] b = refl
+value-on v (x ∷ a) b = value-on (v * 256 + x) a b
+
+-- octets before others count 256 to the power of how many those are
+pub value-append : (a b : List ℕ) → value (a ++ b) ≡ value a * 256 ^ length b + value b
+value-append a b = value-on 0 a b ∙ value-from b (value a)
+
+pub value-zeros : (n : ℕ) → value (replicate n 0) ≡ 0
+unfolding valueFrom
+value-zeros zero = refl
+value-zeros (suc n) = value-zeros n
+
 -- the first octet counts 256 to the power of how many follow
 pub value-first : (b : ℕ) (l : List ℕ) → value (b ∷ l) ≡ b * 256 ^ length l + value l
 unfolding valueFrom
@@ -112,14 +127,34 @@ pub length-part : (l : List ℕ) (a n : ℕ) → a + n ≤ length l → length (
 length-part l a n h = simp (length-take, length-drop) (omega arith)
 
 -- a part of octets is octets
-octets-take : (n : ℕ) (l : List ℕ) → Octets l → Octets (take n l)
+pub octets-take : (n : ℕ) (l : List ℕ) → Octets l → Octets (take n l)
 octets-take zero l h i = omega arith
 octets-take (suc n) [] h i = omega arith
 octets-take (suc n) (x ∷ l) h zero = h 0
 octets-take (suc n) (x ∷ l) h (suc i) = octets-take n l (λ j. h (suc j)) i
 
-octets-drop : (n : ℕ) (l : List ℕ) → Octets l → Octets (drop n l)
+pub octets-drop : (n : ℕ) (l : List ℕ) → Octets l → Octets (drop n l)
 octets-drop n l h i = rw getD-drop (h (n + i))
+
+pub octets-append : (s t : List ℕ) → Octets s → Octets t → Octets (s ++ t)
+octets-append [] t h k i = k i
+octets-append (x ∷ s) t h k zero = h 0
+octets-append (x ∷ s) t h k (suc i) = octets-append s t (λ j. h (suc j)) k i
+
+pub octets-zeros : (n : ℕ) → Octets (replicate n 0)
+octets-zeros zero i = omega arith
+octets-zeros (suc n) zero = omega arith
+octets-zeros (suc n) (suc i) = octets-zeros n i
+
+-- the octets of a number are octets
+pub octets-bytes : (n x : ℕ) (t : List ℕ) → Octets t → Octets (onto n x t)
+unfolding onto
+octets-bytes zero x t h i = h i
+octets-bytes (suc n) x t h i = octets-bytes n (x / 256) (x % 256 ∷ t) more i
+  where
+    more : Octets (x % 256 ∷ t)
+    more zero = omega arith
+    more (suc j) = h j
 
 -- the octets of a field are the part that it was read from, and its number is below the power for its width
 module _ (l : List ℕ) (h : Octets l) (a n : ℕ) (k : a + n ≤ length l) where
@@ -139,3 +174,9 @@ join l a n m = rw (take-add n m (drop a l), drop-drop n a l)
 
 pub join-front : (l : List ℕ) (n m : ℕ) (z : List ℕ) → take n l ++ (take m (drop n l) ++ z) ≡ take (n + m) l ++ z
 join-front l n m z = rw (take-add n m l) (sym (append-assoc (take n l) (take m (drop n l)) z))
+
+-- octets laid over others leave what stands before them, and what stands behind
+pub over-is : (a : ℕ) (l b : List ℕ) → a ≤ length l → over a l b ≡ take a l ++ (b ++ drop (a + length b) l)
+over-is zero l b h = rw zero-add
+over-is (suc a) [] b h = absurd (not-suc-le-zero h)
+over-is (suc a) (x ∷ l) b h = rw suc-add (ap (λ (t : List ℕ). x ∷ t) (over-is a l b (le-of-suc-le-suc h)))

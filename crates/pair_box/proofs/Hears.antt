@@ -55,7 +55,7 @@ module _ (p : Processes) (kept : Bool) where
   hear-moves (Gate grants) own random k = gated-moves (listed grants) (k refl)
   hear-moves (Discovery grant sync) own random k = stays (discovery-keeps p grant sync own random) tt tt
   hear-moves (Register port flag sync pending) own random k = register-moves (p .registration .state) flag port sync k
-  hear-moves Report own random k = stays refl tt tt
+  hear-moves (Report sets) own random k = stays refl tt tt
   hear-moves (Request flag pending) own random k = stays refl tt tt
   hear-moves (RegisterAck flag port sync) own random k = stays refl tt tt
 
@@ -64,7 +64,7 @@ restarts-normal : (body : Body) → restartsBox body ≡ true → isDiscovery bo
 restarts-normal (Gate grants) h = refl
 restarts-normal (Discovery grant sync) h = absurd (false≢true h)
 restarts-normal (Register port flag sync pending) h = refl
-restarts-normal Report h = refl
+restarts-normal (Report sets) h = refl
 restarts-normal (Request flag pending) h = refl
 restarts-normal (RegisterAck flag port sync) h = refl
 

@@ -14,6 +14,7 @@ use Rattle.box_calls.specs.Hear.{hearOf}
 use Rattle.box_calls.specs.declared.FloorBox.{FloorBox}
 use Rattle.box_laws.specs.Stated as calls
 use Rattle.box_laws.specs.Calls.{outcome}
+use Rattle.box_laws.specs.Sound.{registered-is}
 use Rattle.box_laws.specs.Steady.{tick-ok}
 use Rattle.pair_wire.specs.Carried.{carries-valid}
 use Rattle.pair_wire.specs.Message.{messageIn}
@@ -21,19 +22,22 @@ use Rattle.pair_wire.specs.Restarts.{callsBox, tested, downRestarts, upRestarts
 use Rattle.pair_demand.specs.Run.{HasRegistered}
 use Rattle.pair_demand.specs.Laws.{Step, Laws}
 use Rattle.pair_demand.proofs.Steps.{same}
-use Rattle.pair_box.specs.End.{Request, register, deregister, asked, heardIn, BoxEnd}
+use Rattle.pair_box.specs.End.{Request, register, deregister, report, asked, Fair, heardIn, BoxEnd}
 use Rattle.pair_box.proofs.Accepted.{tick-accepted}
 use Rattle.pair_box.proofs.Calls.{Does, accepted-does, call-does}
 use Rattle.pair_box.proofs.Gauge.{Ok, gauge, fresh-ok, watchdog-runs, wait-runs}
 use Rattle.pair_box.proofs.Hears.{hear-moves, calls-box}
-use Rattle.pair_box.proofs.Moves.{gone}
+use Rattle.pair_box.proofs.Moves.{gone, speaks}
 use Rattle.pair_box.proofs.Ticks.{tick-moves}
 use Rattle.pair_box.proofs.Typed.{typed-of}
 
 module _ (A : Address) where
-  request-does : (q : Request) (b : FloorBox) → Ok A b → Does A 0 false b (asked q b)
-  request-does register b o = call-does A calls.register b o tt (λ _. gone tt (λ _. (tt, tt))) (outcome calls.register b)
-  request-does deregister b o = call-does A calls.deregister b o tt (λ _. gone tt (λ _. (refl, tt))) (outcome calls.deregister b)
+  request-does : (q : Request) (b : FloorBox) → Ok A b → Fair q → Does A 0 false b (asked q b)
+  request-does register b o f = call-does A calls.register b o tt (λ _. gone tt (λ _. (tt, tt))) (outcome calls.register b)
+  request-does deregister b o f = call-does A calls.deregister b o tt (λ _. gone tt (λ _. (refl, tt))) (outcome calls.deregister b)
+  request-does (report sets) b o f =
+      call-does A (calls.report sets) b o f (λ h. speaks (registered-is (b .processes .registration .state) (h .0)) refl refl)
+      (outcome (calls.report sets) b)
 
   hear-does : (b : FloorBox) (random : ℕ) (os : List ℕ) → Ok A b → (x : Option Message) → messageIn os ≡ x
       → Step (BoxEnd A) (gauge A) (HasRegistered (BoxEnd A)) upRestarts 0 (tested (callsBox A) x) b (heardIn hearOf x b random)
@@ -58,7 +62,7 @@ module _ (A : Address) where
         fresh-ok = fresh-ok A;
         dog-range = λ b o p r. watchdog-runs (b .processes .registration) (o .holds .processes .sound .registration) r;
         wait-range = λ b o p w. wait-runs (b .processes .registration) (o .holds .processes .sound .registration) w;
-        of-call = λ b c o f. request-does c b o;
+        of-call = λ b c o f. request-does c b o f;
         of-hear = λ b random os o. hear-does b random os o (messageIn os) refl;
         of-tick = λ b l o z. tick-does b o;
       }

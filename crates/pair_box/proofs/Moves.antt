@@ -73,3 +73,12 @@ module _ {kept : Bool} {r t : Registration} {first second : Sent} where
         wait = λ _ _. rw e (omega arith);
         mute = λ _ _. (f, g);
       }
+
+  -- one in REGISTERED that leaves wait and watchdog as they were, whatever it sends
+  pub speaks : r .state ≡ Registered → t .wait ≡ r .wait → t .watchdog ≡ r .watchdog → Moves 0 kept r t first second
+  speaks e w d =
+      record {
+        dog = λ _ _. (e, rw d (omega arith));
+        wait = λ _ _. rw w (omega arith);
+        mute = λ n _. absurd (n e);
+      }

@@ -15,7 +15,7 @@ grants-typed (g ∷ gs) h = (h .0 .0, grants-typed gs (h .1))
 body-typed : (b : Body) → BodyFits b → BodyTyped b
 body-typed (Gate grants) h = grants-typed (listed grants) h
 body-typed (Discovery grant sync) h = h .0 .0
-body-typed Report h = tt
+body-typed (Report sets) h = h .typed
 body-typed (RegisterReq flag pending) h = h
 body-typed (Register port flag sync pending) h = (h .0, h .2)
 body-typed (RegisterAck flag port sync) h = h .0

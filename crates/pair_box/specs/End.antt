@@ -4,6 +4,8 @@ use Prim.Native.Nat.{ℕ, zero, suc}
 use mathlib.Core.Path.{_≡_}
 use mathlib.Core.List.{List, [], _∷_}
 use mathlib.Core.Option.{Option, none, some}
+use Rattle.frame_queues.specs.Queues.{SetsTyped}
+use Rattle.frame_queues.specs.declared.Sets.{Sets}
 use Rattle.frame.specs.Card.{numberOf}
 use Rattle.frame.specs.declared.Address.{Address}
 use Rattle.frame.specs.declared.Message.{Message}
@@ -11,7 +13,7 @@ use Rattle.frame.specs.declared.Reply.the-variants.{Done}
 use Rattle.box_registration.specs.declared.State.{State}
 use Rattle.box_registration.specs.declared.State.the-variants.{RegisterReq, Registered}
 use Rattle.box_telling.specs.declared.Frames.{Frames}
-use Rattle.box_calls.specs.Box.{freshOf, registerOf, deregisterOf, tickOf}
+use Rattle.box_calls.specs.Box.{freshOf, registerOf, deregisterOf, reportOf, tickOf}
 use Rattle.box_calls.specs.Hear.{hearOf}
 use Rattle.box_calls.specs.declared.Answer as box
 use Rattle.box_calls.specs.declared.FloorBox.{FloorBox}
@@ -21,10 +23,18 @@ use Rattle.pair_demand.specs.Run.{Answer, End}
 -- what the client asks
 pub data Request : Type 0 where
   register deregister : Request
+  report : Sets → Request
 
 abbrev pub asked : Request → FloorBox → box.Answer
 asked register b = registerOf b
 asked deregister b = deregisterOf b
+asked (report sets) b = reportOf sets b
+
+-- what the types of the code's numbers see to
+abbrev pub Fair : Request → Type 0
+Fair register = Unit {0}
+Fair deregister = Unit {0}
+Fair (report sets) = SetsTyped sets
 
 -- the frames that go with a reply: none, the first, or both
 abbrev pub framesIn : ℕ → Frames → List (List ℕ)
@@ -55,7 +65,7 @@ module _ (hears : FloorBox → Message → ℕ → box.Answer) where
         Lent = Unit {0};
         Place = Unit {0};
         Fresh = λ b. (freshOf A .reply ≡ Done) × (b ≡ freshOf A .next);
-        Fair = λ c. Unit {0};
+        Fair = Fair;
         call = λ b c. told (asked c b);
         hear = λ b random os. heardIn (messageIn os) b random;
         tick = λ b l. told (tickOf b);

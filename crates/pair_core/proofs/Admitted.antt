@@ -9,6 +9,7 @@ use Rattle.clock.specs.Numbers.{watchdog}
 use Rattle.clock.specs.declared.Quanta.{Quanta}
 use Rattle.frame.specs.Layout.{encode}
 use Rattle.frame.specs.declared.Address.{Address}
+use Rattle.frame_queues.specs.Queues.{noSets}
 use Rattle.frame.specs.declared.Body.the-variants.{Report, Register, RegisterAck}
 use Rattle.frame.specs.declared.Message.{Message}
 use Rattle.frame.specs.declared.RegisterAckFlag.{RegisterAckFlag}
@@ -43,7 +44,7 @@ module _ (A : Address) (b : FloorBox) (n random : ℕ) (os : List ℕ) (m : Mess
 
   pub ack-admits : RegisteredFor A watchdog (BoxEnd A .hear b random os .next)
       × (BoxEnd A .hear b random os .sent
-      ≡ encode (messageOf A (m .timestamp) (RegisterAck RegisterAckFlag.Ack port sync)) ∷ encode (messageOf A (m .timestamp) Report) ∷ [])
+      ≡ encode (messageOf A (m .timestamp) (RegisterAck RegisterAckFlag.Ack port sync)) ∷ encode (messageOf A (m .timestamp) (Report noSets)) ∷ [])
   unfolding isFor accepted handed
   ack-admits =
       let v = carries-valid os m e in

@@ -5,6 +5,7 @@ use Prim.Native.Nat.{ℕ, suc, _+_}
 use mathlib.Core.Path.{_≡_, refl, sym, ap, subst, _∙_}
 use mathlib.Core.Bool.{true, false≢true}
 use native.Mathlib.Omega.{arith}
+use Rattle.frame_queues.specs.Queues.{noSets}
 use Rattle.frame.specs.declared.Address.{Address}
 use Rattle.frame_range.specs.Fits.{isIndividual}
 use Rattle.box_registration.specs.Registration.{isRegistered}
@@ -84,7 +85,7 @@ module _ (A : Address) (i : isIndividual A ≡ true) (D : ℕ) where
       let g = ticks-on (IsReport A) (BE .tick (m .box) tt .sent) (e .report) in
       let hearing : Event HE BE = head-hears (record { link = 1; output = out }) (record { frame = g .octets; age = suc (e .age) }) in
       let meant = subst (λ (d : Address). isFor (y .head .head) d ≡ true) (sym (g .is .2)) (group-for (y .head .head)) in
-      let r = report-restarts (w .ready) A 1 (g .octets) (g .message) (g .carries) (g .is .1) meant (g .is .0) (w .link .0) in
+      let r = report-restarts (w .ready) A 1 (g .octets) (g .message) (g .carries) (g .is .1) meant noSets (g .is .0) (w .link .0) in
       let full : Lingers 62_499_999 (after HE BE y hearing) = record { ready = r .0 .ready; link = r .1; ok = w .ok; none = w .none } in
       by HE BE D Out 0 (Echoes k) (both-tick out tt) (allowed 62_499_998 m (e .full)) (e .full .none)
       (one HE BE D Out y (Echoes k) hearing (g .among, omega (arith, e .late)) (w .none) (w .none)

@@ -5,6 +5,7 @@ use mathlib.Core.Path.{_≡_}
 use mathlib.Core.Bool.{true}
 use native.Mathlib.Omega.{arith}
 use Rattle.clock.specs.declared.Count.{Count}
+use Rattle.frame_queues.specs.Queues.{noSets}
 use Rattle.frame.specs.Range.{BodyFits, Valid}
 use Rattle.frame.specs.declared.Address.{Address}
 use Rattle.frame.specs.declared.Body.{Body}
@@ -61,7 +62,7 @@ module _ (A : Address) where
   IsGate = ToBox (Gate None)
 
   abbrev pub IsReport : Message → Type 0
-  IsReport = OfBox Report
+  IsReport = OfBox (Report noSets)
 
   module _ (i : isIndividual A ≡ true) (body : Body) (f : BodyFits body) where
     pub to-box-valid : (s : HeadState) → Ready out s → Valid (messageOf (from (s .head)) A body)

@@ -6,6 +6,8 @@ use mathlib.Core.Bool.{true}
 use mathlib.Core.List.{List, [], _∷_, _++_, map, List·Memᴰ, List·Memᴰ·head, List·Memᴰ·tail}
 use native.Mathlib.Omega.{arith}
 use Rattle.frame.specs.declared.Address.{Address}
+use Rattle.frame_queues.specs.Laws.{none-fit}
+use Rattle.frame_queues.specs.Queues.{noSets}
 use Rattle.frame.specs.declared.Body.the-variants.{Report, RegisterAck}
 use Rattle.frame.specs.declared.Message.{Message}
 use Rattle.frame.specs.declared.RegisterAckFlag.{RegisterAckFlag}
@@ -69,7 +71,7 @@ module _ (A : Address) (i : isIndividual A ≡ true) (hears : FloorBox → Messa
       let s = both (a .1) in (
         a .0,
         sent-on (IsAccept A) (messageOf A t accept) (of-box-valid A i accept (omega arith) t k) (refl, refl, refl) (x .sent) (m .up) (s .0),
-        sent-on (IsReport A) (messageOf A t Report) (of-box-valid A i Report tt t k) (refl, refl, refl) (x .sent) (m .up) (s .1),
+        sent-on (IsReport A) (messageOf A t (Report noSets)) (of-box-valid A i (Report noSets) none-fit t k) (refl, refl, refl) (x .sent) (m .up) (s .1),
       )
 
   meets : (m : M) → Offered m → Way HE BE D m 0 Met

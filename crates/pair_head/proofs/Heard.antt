@@ -15,6 +15,7 @@ use Rattle.frame.specs.Tests.{Passed}
 use Rattle.frame.specs.Ways.{goesToHead}
 use Rattle.frame.specs.declared.Address.{Address}
 use Rattle.frame.specs.declared.Body.{Body}
+use Rattle.frame_queues.specs.declared.Sets.{Sets}
 use Rattle.frame.specs.declared.Body.the-variants.{Gate, Report, RegisterAck}
 use Rattle.frame.specs.declared.Grants.the-variants.{None}
 use Rattle.frame.specs.declared.Message.{Message}
@@ -80,10 +81,10 @@ module _ {out : List ℕ} {s : HeadState} (y : Ready out s) (A : Address) (n : �
       (a ∙ sym (h .1) ∙ sym (ap (λ (l : Link). l .address) q)) d (carries-valid os m c))
 
   -- REPORT on a registered link
-  pub report-restarts : m .body ≡ Report → RegisteredLink A (linkAt s n) → Restarted (heard s n out (messageIn os))
-  report-restarts e g =
-      let done = box-done Report e refl refl (ap isHeld (g .0), g .1) in
-      let does = report-heard (s .head) (s .table) out n m done e (ap isRegistered (g .0)) in
+  pub report-restarts : (sets : Sets) → m .body ≡ Report sets → RegisteredLink A (linkAt s n) → Restarted (heard s n out (messageIn os))
+  report-restarts sets e g =
+      let done = box-done (Report sets) e refl refl (ap isHeld (g .0), g .1) in
+      let does = report-heard (s .head) (s .table) out n m done sets e (ap isRegistered (g .0)) in
       subst (λ (x : Option Message). Restarted (heard s n out x)) (sym c)
       (ready-taken y r done, subst (RegisteredFor A 62_500_000) (sym (does .link)) (g, refl))
 

@@ -31,7 +31,7 @@ use Rattle.pair_head.proofs.Table.{AllBehave, nothing-behaves, changes-
 restarts-own : (body : Body) → restartsHead body ≡ true → isNewcomer body ≡ false
 restarts-own (Gate grants) r = refl
 restarts-own (Discovery grant sync) r = refl
-restarts-own Report r = refl
+restarts-own (Report sets) r = refl
 restarts-own (RegisterReq flag pending) r = absurd (false≢true r)
 restarts-own (Register port flag sync pending) r = refl
 restarts-own (RegisterAck flag port sync) r = refl
@@ -73,7 +73,7 @@ module _ (A : Address) where
     unfolding onRegistered confirmed
     message-does (Gate grants) c = tt
     message-does (Discovery grant sync) c = tt
-    message-does Report c = either Does (isRegistered (l .state)) _ _ (λ _. (refl, c refl)) (λ _. tt)
+    message-does (Report sets) c = either Does (isRegistered (l .state)) _ _ (λ _. (refl, c refl)) (λ _. tt)
     message-does (RegisterReq RegisterReqFlag.Register pending) c = tt
     message-does (RegisterReq RegisterReqFlag.Deregister pending) c = either Does (isRegistered (l .state)) _ _ (λ _. (refl, tt)) (λ _. tt)
     message-does (Register port flag sync pending) c = tt

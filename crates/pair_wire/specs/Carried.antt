@@ -8,8 +8,11 @@ use mathlib.Core.Option.{none, some}
 use native.Mathlib.Omega.{arith}
 use borrow.Author.Tests.{eqb-true, ltb-true, lt-ltb}
 use lib.Dec.{eqb, ltb}
-use lib.ListN.{length, replicate}
+use lib.ListN.{length, take, replicate}
 use Rattle.octets.specs.Octets.{onto, bytes, valueFrom, Octets}
+use Rattle.octets.specs.Laws.{octets-take}
+use Rattle.frame_queues.specs.Queues.{usedOf, fortyOf}
+use Rattle.frame_queues.specs.Laws.{forty-octets}
 use Rattle.frame.specs.Card.{numberOf}
 use Rattle.frame.specs.Layout.{headerOf, listed, firstOctet, perGrant, registerReqFlag, registerFlag, registerAckFlag, opcodeOf, bodyOctets, encode}
 use Rattle.frame.specs.Range.{Valid}
@@ -43,6 +46,11 @@ octets-zeros : (n : ℕ) → areOctets (replicate n 0) ≡ true
 octets-zeros zero = refl
 octets-zeros (suc n) = octets-zeros n
 
+-- a list of octets passes the test
+pub are-octets : (l : List ℕ) → Octets l → areOctets l ≡ true
+are-octets [] h = refl
+are-octets (x ∷ l) h = and-eq-true-iff (ltb x 256) (areOctets l) .1 (lt-ltb x 256 (h 0), are-octets l (λ i. h (suc i)))
+
 octets-grants : (gs : List Grant) → areOctets (perGrant gs) ≡ true
 octets-grants [] = refl
 octets-grants (g ∷ gs) =
@@ -60,7 +68,7 @@ octets-body (Gate grants) = octets-gate false (listed grants)
 octets-body (Discovery grant sync) =
     octets-join (bytes 1 (firstOctet true (grant ∷ [])) ++ perGrant (grant ∷ [])) (bytes 2 (sync .0))
     (octets-gate true (grant ∷ [])) (octets-bytes 2 (sync .0))
-octets-body Report = octets-bytes 1 0
+octets-body (Report s) = are-octets (take (usedOf (fortyOf s)) (fortyOf s)) (octets-take (usedOf (fortyOf s)) (fortyOf s) (forty-octets s))
 octets-body (RegisterReq flag pending) =
     octets-join (bytes 1 (registerReqFlag flag)) (bytes 1 pending) (octets-bytes 1 (registerReqFlag flag)) (octets-bytes 1 pending)
 octets-body (Register port flag sync pending) =

@@ -24,7 +24,7 @@ registers RegisterFlag.Nack = false
 abbrev pub restartsBox : Body → Bool
 restartsBox (Gate grants) = true
 restartsBox (Discovery grant sync) = false
-restartsBox Report = false
+restartsBox (Report sets) = false
 restartsBox (RegisterReq flag pending) = false
 restartsBox (Register port flag sync pending) = registers flag
 restartsBox (RegisterAck flag port sync) = false
@@ -37,7 +37,7 @@ confirms RegisterAckFlag.Nack = false
 abbrev pub restartsHead : Body → Bool
 restartsHead (Gate grants) = false
 restartsHead (Discovery grant sync) = false
-restartsHead Report = true
+restartsHead (Report sets) = true
 restartsHead (RegisterReq flag pending) = false
 restartsHead (Register port flag sync pending) = false
 restartsHead (RegisterAck flag port sync) = confirms flag

@@ -19,7 +19,7 @@ use Rattle.frame.specs.declared.Message.{Message}
 use Rattle.frame.specs.declared.Reading.{Reading}
 use Rattle.frame.specs.declared.Reply.the-variants.{Done, Size, Kind, Opcode, Range}
 use Rattle.laws.specs.Cases.{either, cut}
-use Rattle.frame_reader.specs.Decode.{grantAt, gateAt, registerReqAt, registerAt, registerAckAt, bodyAt, messageAt, readControl, readOf}
+use Rattle.frame_reader.specs.Decode.{grantAt, gateAt, reportAt, registerReqAt, registerAt, registerAckAt, bodyAt, messageAt, readControl, readOf}
 use Rattle.pair_wire.specs.Carried.{octets-join, octets-bytes}
 use Rattle.pair_wire.specs.Message.{areOctets, messageIn, stamped, restamped}
 use Rattle.pair_wire.specs.Restarts.{tested}
@@ -89,7 +89,7 @@ module _ (l m : List ℕ) (size : length l ≡ length m) (early : take 16 l ≡ 
   gate-alike = rw (late, from 1, from 5, from 7, from 11, from 13, from 17, from 19, from 23)
 
   body-alike : (opcode : ℕ) → bodyAt opcode l ≡ bodyAt opcode m
-  unfolding bodyAt registerReqAt registerAt registerAckAt
+  unfolding bodyAt reportAt registerReqAt registerAt registerAckAt
   body-alike opcode = rw (gate-alike, late, from 1, from 2, from 3, from 5)
 
   message-alike : Alike (messageAt l) (messageAt m)

@@ -1,5 +1,6 @@
 // What a frame says, in words.
 use crate::out;
+use crate::sets;
 use clock::Quanta;
 use frame::Body;
 use frame::Grant;
@@ -8,6 +9,7 @@ use frame::Message;
 use frame::RegisterAckFlag;
 use frame::RegisterFlag;
 use frame::RegisterReqFlag;
+use frame_queues::Sets;
 
 pub fn tell_grant(grant: Grant) {
     let start = grant.start;
@@ -68,6 +70,11 @@ fn tell_discovery(grant: Grant, sync: Quanta) {
     tell_sync(sync);
 }
 
+fn tell_report(sets: Sets) {
+    out::text(b" report");
+    sets::tell(sets);
+}
+
 fn tell_register_req(flag: RegisterReqFlag, pending: u8) {
     out::field(b" register_req", flag.number() as u64);
     tell_pending(pending);
@@ -90,7 +97,7 @@ fn tell_body(body: Body) {
     match body {
         Body::Gate(grants) => tell_gate(grants),
         Body::Discovery { grant, sync } => tell_discovery(grant, sync),
-        Body::Report => out::text(b" report"),
+        Body::Report(sets) => tell_report(sets),
         Body::RegisterReq { flag, pending } => tell_register_req(flag, pending),
         Body::Register {
             port,

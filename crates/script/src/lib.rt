@@ -2,4 +2,5 @@
 pub mod frames;
 pub mod messages;
 pub mod out;
+pub mod sets;
 pub mod words;

@@ -14,6 +14,7 @@ use frame::Message;
 use frame::RegisterAckFlag;
 use frame::RegisterFlag;
 use frame::RegisterReqFlag;
+use frame_queues::Sets;
 
 // The names that `kind` knows.
 const KINDS: usize = 6;
@@ -141,6 +142,43 @@ fn register_ack(of: [u64; 15]) -> Body {
     }
 }
 
+fn octets(of: [u64; 15]) -> [u8; 15] {
+    [
+        modulo_8(of[0]),
+        modulo_8(of[1]),
+        modulo_8(of[2]),
+        modulo_8(of[3]),
+        modulo_8(of[4]),
+        modulo_8(of[5]),
+        modulo_8(of[6]),
+        modulo_8(of[7]),
+        modulo_8(of[8]),
+        modulo_8(of[9]),
+        modulo_8(of[10]),
+        modulo_8(of[11]),
+        modulo_8(of[12]),
+        modulo_8(of[13]),
+        modulo_8(of[14]),
+    ]
+}
+
+fn at_most(n: usize) -> usize
+    ensures { λ r. ⌜ r ≤ 15 ⌝ }
+{
+    if n < words::MOST { n } else { words::MOST }
+}
+
+// Queue sets, from a place among the numbers on: how many, and their octets; none where there is no such number.
+pub fn sets(n: Numbers, at: usize) -> Sets {
+    let of = n.of;
+    let o = octets(of);
+    let end = at_most(n.number);
+    if at < end {
+        return Sets::asked(o[at], &o[at + 1..end]);
+    }
+    Sets::NONE
+}
+
 // The names are in capitals, as the rules write them, so that a REGISTER is not the client's register.
 fn kind(name: &[u8]) -> usize {
     words::place(
@@ -161,7 +199,7 @@ fn body(kind: usize, n: Numbers) -> Body {
         2 => register(of),
         3 => register_req(of),
         4 => register_ack(of),
-        _ => Body::Report,
+        _ => Body::Report(sets(n, 3)),
     }
 }
 

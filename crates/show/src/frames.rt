@@ -16,6 +16,8 @@ use frame::RegisterFlag;
 use frame::RegisterReqFlag;
 use frame::Reply;
 use frame::Writing;
+use frame_queues::Sets;
+use script::sets;
 
 const MOST_OCTETS: usize = 256;
 
@@ -75,6 +77,11 @@ fn show_discovery(grant: Grant, sync: Quanta) {
     out::number(sync.0 as u64);
 }
 
+fn show_report(sets: Sets) {
+    out::text(b" report");
+    sets::tell(sets);
+}
+
 fn show_register_req(flag: RegisterReqFlag, pending: u8) {
     out::text(b" register_req");
     out::number(flag.number() as u64);
@@ -100,7 +107,7 @@ fn show_body(body: Body) {
     match body {
         Body::Gate(grants) => show_gate(grants),
         Body::Discovery { grant, sync } => show_discovery(grant, sync),
-        Body::Report => out::text(b" report"),
+        Body::Report(sets) => show_report(sets),
         Body::RegisterReq { flag, pending } => show_register_req(flag, pending),
         Body::Register {
             port,
@@ -157,13 +164,13 @@ fn show_out_of_range() {
         length: too_long,
         force: false,
     };
-    show_refused(too_large, address, Body::Report);
+    show_refused(too_large, address, Body::Report(Sets::NONE));
     out::text(b"\n");
-    show_refused(address, too_large, Body::Report);
+    show_refused(address, too_large, Body::Report(Sets::NONE));
     out::text(b"\n");
-    show_refused(address, Address(0), Body::Report);
+    show_refused(address, Address(0), Body::Report(Sets::NONE));
     out::text(b"\n");
-    show_refused(address, group, Body::Report);
+    show_refused(address, group, Body::Report(Sets::NONE));
     out::text(b"\n");
     show_refused(address, address, Body::Gate(Grants::One(grant)));
     out::text(b"\n");

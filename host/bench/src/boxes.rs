@@ -1,6 +1,6 @@
 //! Calls of a box.
 
-use crate::frames::written;
+use crate::frames::{written, TWO_FULL};
 use crate::heads::HEAD;
 use crate::kept::Kept;
 use crate::measure::Case;
@@ -29,13 +29,14 @@ pub struct Pair {
     pub plain: plain::FloorBox,
 }
 
-/// Ticks of boxes, and a frame that is heard.
+/// Ticks of boxes, a frame that is heard, and one that is asked for.
 pub fn cases() -> Vec<Case> {
     let mut cases: Vec<Case> = states()
         .map(|(name, parts)| ticking(&format!("box tick, {name}"), pair(&parts)))
         .into();
     cases.push(c_ticking(pair(&parts(BOX, BoxState::Wait))));
     cases.push(hearing(registered(BOX)));
+    cases.push(reporting(registered(BOX)));
     cases
 }
 
@@ -154,6 +155,23 @@ fn hearing(pair: Pair) -> Case {
             let mut plain = plain;
             let message = plain::frame::read(black_box(&frame)).expect("it was written");
             black_box(&black_box(&mut plain).hear(&message, 0));
+        },
+    )
+}
+
+/// A REPORT, after which the box is as it was: its timer begins anew.
+fn reporting(pair: Pair) -> Case {
+    let Pair {
+        mut proved,
+        mut plain,
+    } = pair;
+    Case::short(
+        "box report, two full sets",
+        move || {
+            black_box(&black_box(&mut proved).report(2, black_box(&TWO_FULL)));
+        },
+        move || {
+            black_box(&black_box(&mut plain).report(2, black_box(&TWO_FULL)));
         },
     )
 }

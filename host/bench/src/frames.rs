@@ -4,7 +4,9 @@ use crate::boxes::BOX;
 use crate::heads::HEAD;
 use crate::measure::Case;
 use crustnewt::sys;
-use crustnewt::{AckFlag, Body, Frame, Grant, Granted, Message, RegisterFlag, RequestFlag};
+use crustnewt::{
+    AckFlag, Body, Frame, Grant, Granted, Message, QueueSets, RegisterFlag, RequestFlag,
+};
 use plain::frame::{read, write};
 use std::hint::black_box;
 
@@ -18,10 +20,22 @@ pub fn cases() -> Vec<Case> {
             [reading(name, frame), writing(name, message, frame)]
         })
         .collect();
-    let message = Message::new(BOX, HEAD, 9, &Body::Report);
+    let message = Message::new(BOX, HEAD, 9, &Body::Report(QueueSets::NONE));
     let frame = written(&message);
     cases.extend([c_reading(frame), c_writing(message, frame)]);
     cases
+}
+
+/// Two queue sets of eight queues each, as they stand in a frame.
+pub const TWO_FULL: [u8; 34] = {
+    let mut octets = [0x12; 34];
+    octets[0] = 0xFF;
+    octets[17] = 0xFF;
+    octets
+};
+
+fn two_full() -> QueueSets {
+    QueueSets::of(2, &TWO_FULL).expect("they fit")
 }
 
 /// Its frame.
@@ -89,7 +103,7 @@ fn plain_writing(frame: Frame) -> impl FnMut() {
     }
 }
 
-fn bodies() -> [(&'static str, Body); 6] {
+fn bodies() -> [(&'static str, Body); 7] {
     let granted = Granted {
         grant: Grant {
             start: 1000,
@@ -117,7 +131,8 @@ fn bodies() -> [(&'static str, Body); 6] {
     [
         ("GATE of four grants", Body::Gate([granted; 4].into())),
         ("discovery GATE", discovery),
-        ("REPORT", Body::Report),
+        ("REPORT", Body::Report(QueueSets::NONE)),
+        ("REPORT with two full sets", Body::Report(two_full())),
         ("REGISTER_REQ", request),
         ("REGISTER", register),
         ("REGISTER_ACK", acknowledgement),

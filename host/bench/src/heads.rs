@@ -5,7 +5,7 @@ use crate::frames::written;
 use crate::kept::Kept;
 use crate::measure::Case;
 use crustnewt::sys::{self, HeadMemory, MOST_TICKS};
-use crustnewt::{Body, Frame, Head, HeadParts, Link, Message, Table, VecTable, Window};
+use crustnewt::{Body, Frame, Head, HeadParts, Link, Message, QueueSets, Table, VecTable, Window};
 use crustnewt_tool::numbers::{plural, thousands};
 use plain::{Address, HeadAnswer, Refusal};
 use std::hint::black_box;
@@ -213,7 +213,12 @@ fn hearing(links: usize) -> Case {
 
 fn report(address: u64) -> Frame {
     const EVERYONE: u64 = 0x0180_C200_0001;
-    written(&Message::new(EVERYONE, address, 0, &Body::Report))
+    written(&Message::new(
+        EVERYONE,
+        address,
+        0,
+        &Body::Report(QueueSets::NONE),
+    ))
 }
 
 #[cfg(test)]

@@ -5,6 +5,7 @@ pub(crate) mod fixed;
 mod head_case;
 mod joint_case;
 pub(crate) mod messages;
+pub(crate) mod queue_sets;
 pub(crate) mod states;
 pub(crate) mod values;
 

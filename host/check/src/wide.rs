@@ -1,17 +1,20 @@
 //! Values that the replay language can't write: addresses of more than 48
-//! bits, lengths and sync times of more than 16; and what it never lets the
-//! writer see, sources that no frame may have. Both cores are asked directly,
-//! one call at a time. No message of such values is heard: what is heard is
+//! bits, lengths and sync times of more than 16, sets that aren't as many as
+//! they are said to be; and what it never lets the writer see, sources that no
+//! frame may have and bodies of a REPORT that run past or aren't zero behind
+//! their sets. Both cores are asked directly, one call at a time, and what they
+//! read or tell is compared whole, with what no line prints of it. No message of such values is heard: what is heard is
 //! octets, and no octets hold them, or none that are read.
 
-use crate::generate::messages::{any_frame, any_message, granted};
+use crate::generate::messages::{any_frame, any_message, fitting, frame_of, granted, For};
+use crate::generate::queue_sets;
 use crate::generate::states::{any_box, any_head, any_links};
 use crate::generate::values::{address, count, sync, ticks_ahead};
 use crustnewt_core::{Advanced, Core, HeadCore, HeadReply};
 use crustnewt_tool::dice::Dice;
 use plain::{
     Address, Body, FloorBox, Gate, GateRequest, Grant, GrantList, Light, Link, Message, Newcomer,
-    OpenWindow,
+    OpenWindow, QueueSets,
 };
 use std::fmt::Debug;
 
@@ -21,6 +24,7 @@ pub fn compare_wide(first: &dyn Core, second: &dyn Core, seed: u64) -> Option<St
         let mut dice = Dice::new(seed);
         [
             writing(core, &mut dice),
+            reading(core, &mut dice),
             box_call(core, &mut dice),
             head_call(core, &mut dice),
         ]
@@ -35,6 +39,11 @@ fn writing(core: &dyn Core, dice: &mut Dice) -> String {
     told(&message, core.write(&message))
 }
 
+fn reading(core: &dyn Core, dice: &mut Dice) -> String {
+    let frame = any_frame(dice);
+    told(&frame, core.read(&frame))
+}
+
 fn box_call(core: &dyn Core, dice: &mut Dice) -> String {
     let mut state = any_box(dice);
     if dice.chance(400) {
@@ -43,16 +52,34 @@ fn box_call(core: &dyn Core, dice: &mut Dice) -> String {
     let mut floor_box = core.floor_box();
     floor_box.set_state(&state);
     let frame = any_frame(dice);
+    let (number, sets) = miscounted(dice);
     let silent = floor_box.ticks_until();
-    let reply = match dice.below(6) {
+    let reply = match dice.below(7) {
         0 => single(floor_box.fresh(wide_address(dice))),
         1 => single(floor_box.hear(&frame, 0)),
         2 => single(floor_box.register()),
         3 => single(floor_box.deregister()),
-        4 => floor_box.advance(ticks_ahead(dice, &[state.light.left()])),
+        4 => single(floor_box.report(number, &sets)),
+        5 => floor_box.advance(ticks_ahead(dice, &[state.light.left()])),
         _ => single(floor_box.tick()),
     };
-    told(&(state, frame), (reply, silent, floor_box.state()))
+    let asked = (state, frame, number, sets);
+    told(&asked, (reply, silent, floor_box.state()))
+}
+
+/// Sets to ask for, some with another number or with octets too few or too
+/// many.
+fn miscounted(dice: &mut Dice) -> (u8, Vec<u8>) {
+    let sets = queue_sets::asked(dice);
+    let (number, mut octets) = (sets.len() as u8, queue_sets::octets(&sets));
+    match dice.below(6) {
+        0 => octets.truncate(octets.len().saturating_sub(1 + dice.below(2) as usize)),
+        1 => octets.push(dice.pick(&[0, 1])),
+        2 => return (number.wrapping_add(dice.pick(&[1, 255])), octets),
+        3 => return (dice.half() as u8, octets),
+        _ => {}
+    }
+    (number, octets)
 }
 
 /// A call that tells no ticks.
@@ -107,10 +134,24 @@ fn head_request(head: &mut dyn HeadCore, dice: &mut Dice) -> HeadReply {
             asked: dice.below(6),
             grants,
         }),
-        5 => head.hear(dice.below(3), &any_frame(dice)),
+        5 => {
+            let link = dice.below(3);
+            let frame = frame_on(head, dice, link);
+            head.hear(link, &frame)
+        }
         6 => head.fresh(newcomer.address),
         _ => head.tick(),
     }
+}
+
+/// A frame of any kind, or one that this link is there to hear.
+fn frame_on(head: &dyn HeadCore, dice: &mut Dice, link: u64) -> Vec<u8> {
+    if dice.chance(500) || link == 0 {
+        return any_frame(dice);
+    }
+    let named = head.link(link as usize - 1);
+    let body = fitting(dice, Some(named.state));
+    frame_of(dice, For::Head, head.state().count, named.address, body)
 }
 
 fn told(asked: &impl Debug, answered: impl Debug) -> String {
@@ -162,7 +203,10 @@ fn wide_message(dice: &mut Dice) -> Message {
             *sync = wide(dice, *sync);
         }
         Body::Register { sync, .. } | Body::RegisterAck { sync, .. } => *sync = wide(dice, *sync),
-        Body::Report | Body::RegisterReq { .. } => {}
+        Body::Report(sets) if dice.chance(500) => {
+            *sets = QueueSets::of_octets(queue_sets::body(dice));
+        }
+        Body::Report(_) | Body::RegisterReq { .. } => {}
     }
     message
 }

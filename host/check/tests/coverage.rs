@@ -1,10 +1,10 @@
-//! The cases reach every reply number, notice and phase, and every kind of
-//! source.
+//! The cases reach every reply number, notice and phase, every kind of source,
+//! and queue sets that end wherever it counts.
 
 use check::{compare_wide, script};
 use crustnewt_core::{BoxCore, Core, HeadCore, PlainCore};
 use crustnewt_tool::replay::{parse, replay, Call, Script, Stage};
-use plain::{Address, Frame, Message};
+use plain::{Address, Body, Frame, LinkState, Message};
 use std::cell::RefCell;
 use std::collections::HashSet;
 
@@ -144,21 +144,28 @@ impl Core for Writer {
     }
 }
 
-/// The sources of the first so many cases.
-fn sources(cases: u64) -> Met {
-    let (mut met, writer) = (Met::new(), Writer(RefCell::default()));
+/// Plays the first so many cases, and hands out each call with the stage that
+/// it is made on; then the messages that the writer is asked for.
+fn play(cases: u64, mut see: impl FnMut(&Stage<'_>, &Call)) -> Vec<Message> {
+    let writer = Writer(RefCell::default());
     for seed in 0..cases {
         let mut stage = Stage::new(&PlainCore);
         for line in script(seed) {
             let Script::Call(call) = parse(line.as_bytes()) else {
                 panic!("not of the language: {line}");
             };
-            meet_call(&mut met, &stage, &call);
+            see(&stage, &call);
             stage.play(&call, &mut Vec::new()).unwrap();
         }
         assert_eq!(compare_wide(&writer, &PlainCore, seed), None);
     }
-    for message in writer.0.into_inner() {
+    writer.0.into_inner()
+}
+
+/// The sources of the first so many cases.
+fn sources(cases: u64) -> Met {
+    let mut met = Met::new();
+    for message in play(cases, |stage, call| meet_call(&mut met, stage, call)) {
         let messages = [
             message,
             Message {
@@ -190,6 +197,116 @@ fn cases_reach_every_kind_of_source() {
         }
     }
     let met = sources(1600);
+    expected.retain(|expected| !met.contains(expected));
+    assert!(expected.is_empty(), "no case has: {expected:?}");
+}
+
+/// Of a body: how many octets number and sets take, `past` where they run past
+/// its end, and what is behind them.
+fn ends(body: &[u8]) -> String {
+    let mut taken = 1;
+    for _ in 0..body[0] {
+        let queues = body.get(taken).map_or(8, |bitmap| bitmap.count_ones());
+        taken += 1 + 2 * queues as usize;
+    }
+    match body.get(taken..) {
+        None => "past".to_owned(),
+        Some(pad) if pad.iter().all(|&octet| octet == 0) => format!("{taken}"),
+        Some(_) => format!("{taken} and pad"),
+    }
+}
+
+/// What a client asks for on this stage.
+fn meet_asked(met: &mut Met, stage: &Stage<'_>, number: u8, sets: &[u8]) {
+    let before = stage.floor_box.state();
+    let mut floor_box = before;
+    let answer = BoxCore::report(&mut floor_box, number, sets).number;
+    met.insert(format!("asked for {}: {answer}", 1 + sets.len()));
+    met.insert(format!("asked for {number} sets: {answer}"));
+    if answer == 0 && before.light != floor_box.light {
+        met.insert("asked for, and a grant is activated".to_owned());
+    }
+    if answer == 0 && before.light.window() > 0 {
+        met.insert("asked for while transmission is enabled".to_owned());
+    }
+}
+
+/// What a link hears of a REPORT on this stage.
+fn meet_heard(met: &mut Met, stage: &Stage<'_>, link: u64, frame: &[u8]) {
+    let reply = copy(&*stage.head).hear(link, frame);
+    let is_report = frame.get(14..16) == Some(&[0, 3]);
+    if !is_report || reply.number != 0 {
+        return;
+    }
+    let told = match stage.head.link(link as usize - 1).state {
+        LinkState::Waiting => "waiting link hears",
+        _ => "told",
+    };
+    met.insert(format!("{told} {}", ends(&frame[20..])));
+}
+
+/// What is asked for, read and heard of REPORTs, and what the writer is handed.
+fn reports(cases: u64) -> Met {
+    let mut met = Met::new();
+    let written = play(cases, |stage, call| match call {
+        Call::BoxReport { number, sets } => meet_asked(&mut met, stage, *number, sets),
+        Call::HeadHear { link, frame } => meet_heard(&mut met, stage, *link, frame),
+        Call::Read(frame) if frame.len() == 60 && frame[15] == 3 => {
+            let number = PlainCore.read(frame).err().unwrap_or(0);
+            met.insert(format!("read {}: {number}", ends(&frame[20..])));
+        }
+        _ => {}
+    });
+    for message in written {
+        if let Body::Report(sets) = message.body {
+            let (to, from) = (BOX, BOX);
+            let (number, _) = PlainCore.write(&Message {
+                to,
+                from,
+                ..message
+            });
+            met.insert(format!("write {}: {number}", ends(&sets.octets())));
+        }
+    }
+    met
+}
+
+/// Octets that a REPORT takes, and reply numbers, that must be met.
+const REPORTS: [&str; 19] = [
+    "asked for 39: 0",
+    "asked for 40: 0",
+    "asked for 41: 4",
+    "asked for 42: 4",
+    "asked for 40: 7",
+    "asked for 41: 7",
+    "asked for 41: 13",
+    "asked for 0 sets: 0",
+    "asked for 13 sets: 0",
+    "asked for 39 sets: 0",
+    "asked for 40 sets: 4",
+    "asked for 255 sets: 4",
+    "asked for, and a grant is activated",
+    "asked for while transmission is enabled",
+    "waiting link hears 1",
+    "waiting link hears 40",
+    "told 1 and pad",
+    "read past: 4",
+    "write past: 4",
+];
+
+#[test]
+fn cases_reach_every_end_of_queue_sets() {
+    let mut expected: Vec<String> = REPORTS.map(str::to_owned).into();
+    for taken in [1, 2, 18, 38, 39, 40] {
+        expected.push(format!("read {taken}: 0"));
+        expected.push(format!("told {taken}"));
+        expected.push(format!("write {taken}: 0"));
+    }
+    for taken in [1, 4, 38, 39] {
+        expected.push(format!("read {taken} and pad: 0"));
+        expected.push(format!("write {taken} and pad: 4"));
+    }
+    let met = reports(1600);
     expected.retain(|expected| !met.contains(expected));
     assert!(expected.is_empty(), "no case has: {expected:?}");
 }

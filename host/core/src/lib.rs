@@ -81,6 +81,9 @@ pub trait BoxCore {
     fn register(&mut self) -> BoxReply;
     /// The client asks to deregister.
     fn deregister(&mut self) -> BoxReply;
+    /// The client asks for a REPORT of so many queue sets, which are handed in
+    /// as they stand in a frame.
+    fn report(&mut self, number: u8, sets: &[u8]) -> BoxReply;
     /// A frame arrives: reads it, then hears its message.
     fn hear(&mut self, frame: &[u8], random: u32) -> BoxReply;
     /// One quantum passes.

@@ -152,6 +152,10 @@ impl BoxCore for FloorBox {
         FloorBox::deregister(self).into()
     }
 
+    fn report(&mut self, number: u8, sets: &[u8]) -> BoxReply {
+        FloorBox::report(self, number, sets).into()
+    }
+
     fn hear(&mut self, frame: &[u8], random: u32) -> BoxReply {
         frame::read(frame)
             .and_then(|message| FloorBox::hear(self, &message, random))

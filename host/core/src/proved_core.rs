@@ -209,6 +209,10 @@ impl BoxCore for ProvedBox {
         self.call(sys::box_deregister)
     }
 
+    fn report(&mut self, number: u8, sets: &[u8]) -> BoxReply {
+        self.call(|memory| sys::box_report(number, sets, memory))
+    }
+
     fn hear(&mut self, frame: &[u8], random: u32) -> BoxReply {
         self.call(|memory| sys::box_hear(frame, random, memory))
     }

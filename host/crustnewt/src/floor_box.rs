@@ -5,6 +5,7 @@ mod reply;
 
 use crate::advanced::Advanced;
 use crate::message::Frame;
+use crate::queue_sets::QueueSets;
 use crate::refusal::Refusal;
 use crate::sys::{self, BoxMemory, BOX_REPLY_WORDS, BOX_WORDS, FRAME_OCTETS};
 use crate::word::sure;
@@ -88,6 +89,24 @@ impl FloorBox {
     #[inline]
     pub fn deregister(&mut self) -> Result<BoxReply<'_>, Refusal> {
         self.call(sys::box_deregister)
+    }
+
+    /// The client asks for a REPORT of so many queue sets, given by their octets
+    /// as they stand in a frame behind the number. Its timer for the next REPORT
+    /// begins anew.
+    ///
+    /// [`Refusal::State`] unless the box is REGISTERED; [`Refusal::Range`] unless
+    /// these are exactly so many sets, and 39 octets at most.
+    #[inline]
+    pub fn report(&mut self, number: u8, sets: &[u8]) -> Result<BoxReply<'_>, Refusal> {
+        self.call(|memory| sys::box_report(number, sets, memory))
+    }
+
+    /// The same, of sets that were made before.
+    #[inline]
+    pub fn report_sets(&mut self, sets: &QueueSets) -> Result<BoxReply<'_>, Refusal> {
+        let (number, octets) = sets.parts();
+        self.report(number, octets)
     }
 
     /// A frame came. `random` is any random number; it sets the random wait of

@@ -42,6 +42,9 @@
 //! - **Send in time.** That window is as long as that frame, so ask
 //!   [`FloorBox::next_to_send`] in the quantum in which it is handed out. What
 //!   has waited for 3,125,000 quanta is too old: throw it away.
+//! - **Tell of queues.** The REPORTs that a box hands out by itself have no
+//!   queue sets, and a grant's force bit sends nothing: it stands in
+//!   [`BoxNotice::Grant`] and asks you for [`FloorBox::report`].
 //! - **Name the link** on which the head hears a frame; [`Head::hear`] says
 //!   which that is.
 //! - **Tell both ends of every quantum**, but not in every quantum: a call takes
@@ -68,6 +71,7 @@ mod advanced;
 mod floor_box;
 mod head;
 mod message;
+mod queue_sets;
 mod refusal;
 pub mod sys;
 mod up_to;
@@ -82,5 +86,6 @@ pub use head::{
     OpenWindow, Table, Window,
 };
 pub use message::{AckFlag, Body, Frame, Grant, Granted, Message, RegisterFlag, RequestFlag};
+pub use queue_sets::{QueueSet, QueueSets};
 pub use refusal::Refusal;
 pub use up_to::UpTo;

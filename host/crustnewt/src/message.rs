@@ -1,5 +1,6 @@
 //! Frames by themselves: messages, reader, writer.
 
+use crate::queue_sets::QueueSets;
 use crate::refusal::Refusal;
 use crate::sys::{self, FRAME_OCTETS, MESSAGE_WORDS};
 use crate::up_to::UpTo;
@@ -16,13 +17,14 @@ pub type Frame = [u8; FRAME_OCTETS];
 ///
 /// ```
 /// # fn main() -> Result<(), crustnewt::Refusal> {
-/// use crustnewt::{Body, Message};
+/// use crustnewt::{Body, Message, QueueSets};
 ///
+/// let report = Body::Report(QueueSets::NONE);
 /// let mut frame = [0; 60];
-/// Message::new(0x0180_C200_0001, 0x0200_0000_0031, 7, &Body::Report).write(&mut frame)?;
+/// Message::new(0x0180_C200_0001, 0x0200_0000_0031, 7, &report).write(&mut frame)?;
 /// let mut message = Message::default();
 /// message.read(&frame)?;
-/// assert_eq!((message.stamp(), message.body()), (7, Body::Report));
+/// assert_eq!((message.stamp(), message.body()), (7, report));
 /// # Ok(())
 /// # }
 /// ```
@@ -61,8 +63,8 @@ pub enum Body {
         /// Sync time that the head needs; 16 bits on the wire.
         sync: u32,
     },
-    /// A REPORT without queue sets.
-    Report,
+    /// A REPORT with its queue sets.
+    Report(QueueSets),
     /// A box asks to register or tells that it leaves.
     RegisterReq {
         /// Which of the two.
@@ -155,7 +157,8 @@ impl Message {
 
     /// Writes it into a frame; [`Refusal::Range`], and a frame of zeros, where a
     /// field is outside its range. So is a source that is zero, a group's or
-    /// above 48 bits, while a destination may be any 48.
+    /// above 48 bits, while a destination may be any 48; and so are queue sets
+    /// that run past the body, or that something stands behind.
     #[inline]
     pub fn write(&self, frame: &mut Frame) -> Result<(), Refusal> {
         Refusal::judge(sys::write(&self.words, frame))
@@ -197,7 +200,7 @@ impl Default for Message {
     /// as its source is nobody's.
     #[inline]
     fn default() -> Message {
-        Message::new(0, 0, 0, &Body::Report)
+        Message::new(0, 0, 0, &Body::Report(QueueSets::NONE))
     }
 }
 
@@ -220,7 +223,10 @@ impl Body {
                     [sync.into(), force.into(), grant.word(), 0, 0, 0],
                 )
             }
-            Body::Report => (REPORT, [0; BODY_WORDS]),
+            Body::Report(ref sets) => {
+                let [a, b, c, d, e] = sets.words();
+                (REPORT, [a, b, c, d, e, 0])
+            }
             Body::RegisterReq { flag, pending } => {
                 (REGISTER_REQ, [flag as u64, pending.into(), 0, 0, 0, 0])
             }
@@ -259,7 +265,7 @@ impl Body {
                 },
                 sync: fit(a)?,
             },
-            REPORT => Body::Report,
+            REPORT => Body::Report(QueueSets::of_words([a, b, c, d, e])),
             REGISTER_REQ => Body::RegisterReq {
                 flag: RequestFlag::of_word(a)?,
                 pending: fit(b)?,

@@ -26,11 +26,13 @@ pub const LINK_WORDS: usize = 5;
 /// Most links of a table.
 pub const MOST_LINKS: usize = 64;
 /// Words that a call of the head tells.
-pub const HEAD_REPLY_WORDS: usize = 5;
+pub const HEAD_REPLY_WORDS: usize = 10;
 /// Words that an advance tells its ticks in.
 pub const MADE_WORDS: usize = 1;
 /// Most ticks of an advance.
 pub const MOST_TICKS: u64 = 65_536;
+/// Most octets of a REPORT's queue sets.
+pub const MOST_SETS_OCTETS: usize = 39;
 
 /// What a call of the box is lent.
 #[derive(Debug)]
@@ -79,6 +81,7 @@ box_calls! {
     crustnewt_box_fresh(address: u64);
     crustnewt_box_register();
     crustnewt_box_deregister();
+    crustnewt_box_report(number: u8, sets: *const u8, sets_octets: usize);
     crustnewt_box_hear(octets: *const u8, octets_length: usize, random: u32);
     crustnewt_box_tick();
     crustnewt_box_advance(ticks: u64)[made: *mut u64, made_words: usize];
@@ -215,6 +218,13 @@ pub fn box_register(memory: BoxMemory<'_>) -> u8 {
 #[inline]
 pub fn box_deregister(memory: BoxMemory<'_>) -> u8 {
     call_box!(crustnewt_box_deregister(), memory)
+}
+
+/// `crustnewt_box_report`.
+#[inline]
+pub fn box_report(number: u8, sets: &[u8], memory: BoxMemory<'_>) -> u8 {
+    let (sets, octets) = (sets.as_ptr(), sets.len());
+    call_box!(crustnewt_box_report(number, sets, octets), memory)
 }
 
 /// `crustnewt_box_hear`.

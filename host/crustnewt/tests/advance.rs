@@ -3,7 +3,8 @@
 use crustnewt::sys::{self, BoxMemory, HeadMemory, MOST_TICKS};
 use crustnewt::{
     Advanced, ArrayTable, Body, BoxNotice, BoxParts, BoxState, FloorBox, Frame, Grant, Head,
-    HeadParts, Light, Link, LinkState, Message, Refusal, RegisterFlag, Table, UpTo, Window,
+    HeadParts, Light, Link, LinkState, Message, QueueSets, Refusal, RegisterFlag, Table, UpTo,
+    Window,
 };
 
 const HEAD: u64 = 0x0200_0000_0001;
@@ -97,7 +98,10 @@ fn a_box_stops_at_a_frame_with_the_stamp_of_its_tick() {
     let Advanced { reply, made } = floor_box.advance(MOST_TICKS).unwrap();
     assert_eq!(made, 100);
     assert_eq!(reply.frames().len(), 1);
-    assert_eq!(read(&reply.frames()[0]), (1100, Body::Report));
+    assert_eq!(
+        read(&reply.frames()[0]),
+        (1100, Body::Report(QueueSets::NONE))
+    );
     assert!(reply.notices().next().is_none());
     let parts = floor_box.parts();
     assert_eq!((parts.watchdog, parts.report), (62_499_900, 3_125_000));

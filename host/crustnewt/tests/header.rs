@@ -35,6 +35,7 @@ fn lengths_are_the_headers() {
         ("HEAD_REPLY_WORDS", sys::HEAD_REPLY_WORDS),
         ("MADE_WORDS", sys::MADE_WORDS),
         ("MOST_TICKS", sys::MOST_TICKS as usize),
+        ("MOST_SETS_OCTETS", sys::MOST_SETS_OCTETS),
     ] {
         assert_eq!(numbers[name], length, "{name}");
     }

@@ -52,13 +52,15 @@ const OPEN_BOX: Block = registered([7, 100, 0, 0]);
 const HEAD: [u64; sys::HEAD_WORDS] = [HEAD_ADDRESS, 7, 1, 5, 100];
 const LINKS: [u64; 2 * sys::LINK_WORDS] = [BOX_ADDRESS, 2, 0, 1000, 1000, 0, 0, 0, 0, 0];
 
-/// A tick's, a client's two wishes' and an advance's.
-fn numbers_of_box(block: &Block) -> [u8; 4] {
+/// A tick's, a client's three wishes' and an advance's.
+fn numbers_of_box(block: &Block) -> [u8; 5] {
+    let report = |memory: BoxMemory<'_>| sys::box_report(1, &[0], memory);
     let advance = |memory: BoxMemory<'_>| sys::box_advance(1, memory, &mut [0]);
-    let calls: [fn(BoxMemory<'_>) -> u8; 4] = [
+    let calls: [fn(BoxMemory<'_>) -> u8; 5] = [
         sys::box_tick,
         sys::box_register,
         sys::box_deregister,
+        report,
         advance,
     ];
     calls.map(|call| {
@@ -82,7 +84,7 @@ fn lets_out(block: &Block) -> [u8; 3] {
 }
 
 fn require_unsound_box(block: &Block, what: &str) {
-    assert_eq!(numbers_of_box(block), [UNSOUND; 4], "{what}");
+    assert_eq!(numbers_of_box(block), [UNSOUND; 5], "{what}");
     assert_eq!(sys::box_ticks_until(block), 0, "{what}");
     assert_eq!(
         FloorBox::from_words(*block),
@@ -126,7 +128,7 @@ fn widened<const WORDS: usize>(words: &[u64; WORDS], place: usize, more: u64) ->
 
 #[test]
 fn no_word_of_a_box_is_cut() {
-    assert_eq!(numbers_of_box(&LIT_BOX), [0, 7, 0, 0]);
+    assert_eq!(numbers_of_box(&LIT_BOX), [0, 7, 0, 0, 0]);
     assert_eq!(lets_out(&OPEN_BOX), [1, 2, 1]);
     for block in [LIT_BOX, OPEN_BOX] {
         let wide = (1..GRANTS).map(|place| (place, WIDE));
@@ -296,6 +298,7 @@ fn ask_box(dice: &mut Dice, floor_box: &mut FloorBox) -> Vec<Frame> {
     let reply = match dice.below(100) {
         0..5 => floor_box.register(),
         5 if dice.below(5) == 0 => floor_box.deregister(),
+        6 => floor_box.report(1, &[1, dice.below(256) as u8, 0]),
         _ => floor_box.tick(),
     };
     sent(reply.map(|reply| reply.frames()))

@@ -2,8 +2,8 @@
 
 use crustnewt::{
     AckFlag, ArrayTable, Body, BoxNotice, BoxState, FloorBox, Frame, Grant, Granted, Head,
-    HeadNotice, HeadNoticeKind, Light, LinkState, Message, Next, OpenWindow, Refusal, RegisterFlag,
-    RequestFlag, Table, UpTo, VecTable, Window,
+    HeadNotice, HeadNoticeKind, Light, LinkState, Message, Next, OpenWindow, QueueSets, Refusal,
+    RegisterFlag, RequestFlag, Table, UpTo, VecTable, Window,
 };
 
 const HEAD: u64 = 0x0200_0000_0001;
@@ -11,6 +11,11 @@ const BOX: u64 = 0x0200_0000_0031;
 const EVERYONE: u64 = 0x0180_C200_0001;
 /// A group's: the box's with the lowest bit of its first octet set.
 const GROUP: u64 = 0x0300_0000_0031;
+
+/// What a REPORT says that a box hands out by itself.
+const EMPTY: Body = Body::Report(QueueSets::NONE);
+/// Queues 0 and 2 with 258 and 772; queue 7 with 65,535.
+const TWO_SETS: [u8; 8] = [0b101, 1, 2, 3, 4, 0b1000_0000, 0xFF, 0xFF];
 
 fn head<const LINKS: usize>() -> Head<ArrayTable<LINKS>> {
     Head::fresh(HEAD, ArrayTable::new()).unwrap()
@@ -57,9 +62,13 @@ fn a_pair_registers_and_parts() {
     assert_eq!(control, Next::Control(&request));
 
     let notice = head.hear(0, &request).unwrap().notice();
-    let (link, trip) = (0, 0);
-    let kind = HeadNoticeKind::Request;
-    assert_eq!(notice, Some(HeadNotice { kind, link, trip }));
+    let asked = HeadNotice {
+        kind: HeadNoticeKind::Request,
+        link: 0,
+        trip: 0,
+        sets: QueueSets::NONE,
+    };
+    assert_eq!(notice, Some(asked));
     let register = head.admit(BOX, 16, 10).unwrap().frames()[0];
     assert_eq!(head.link(1).unwrap().state, LinkState::Waiting);
 
@@ -70,7 +79,7 @@ fn a_pair_registers_and_parts() {
     };
     let (flag, port, sync) = (AckFlag::Ack, 1, 10);
     assert_eq!(body(ack), Body::RegisterAck { flag, port, sync });
-    assert_eq!(body(report), Body::Report);
+    assert_eq!(body(report), EMPTY);
     assert_eq!(head.hear(1, ack).unwrap().frames().len(), 1);
     let kind = HeadNoticeKind::Report;
     let heard = head.hear(1, report).unwrap();
@@ -249,7 +258,7 @@ const GRANTED: Granted = Granted {
 };
 
 /// One of each kind, with fields at their ends.
-fn bodies() -> [Body; 8] {
+fn bodies() -> [Body; 9] {
     let (port, sync, pending) = (u16::MAX, 65_535, u8::MAX);
     [
         Body::Gate([].into()),
@@ -259,7 +268,8 @@ fn bodies() -> [Body; 8] {
             granted: GRANTED,
             sync,
         },
-        Body::Report,
+        EMPTY,
+        Body::Report(QueueSets::of(2, &TWO_SETS).unwrap()),
         Body::RegisterReq {
             flag: RequestFlag::Deregister,
             pending,
@@ -315,7 +325,7 @@ fn from(source: u64, frame: &Frame) -> Frame {
 fn a_source_is_individual_and_not_zero() {
     let frame_of = |to, from| {
         let mut frame = [0xEE; 60];
-        let written = Message::new(to, from, 5, &Body::Report).write(&mut frame);
+        let written = Message::new(to, from, 5, &EMPTY).write(&mut frame);
         written.map(|()| frame)
     };
     for source in [1, BOX, 0xFE00_0000_0000] {
@@ -327,7 +337,7 @@ fn a_source_is_individual_and_not_zero() {
     let report = frame_of(EVERYONE, BOX).unwrap();
     for source in [0, GROUP, EVERYONE, 1 << 40, (1 << 48) - 1] {
         assert_eq!(frame_of(EVERYONE, source), Err(Refusal::Range));
-        let mut message = Message::new(EVERYONE, BOX, 5, &Body::Report);
+        let mut message = Message::new(EVERYONE, BOX, 5, &EMPTY);
         let read = message.read(&from(source, &report));
         assert_eq!(read, Err(Refusal::Range), "{source:#x}");
         assert_eq!(message, Message::default());

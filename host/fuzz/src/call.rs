@@ -2,6 +2,9 @@
 
 use crustnewt::sys::{self, BoxMemory, HeadMemory};
 
+/// Octets of memory behind what a call lends.
+const BEHIND: usize = 64;
+
 /// A call of a box.
 #[derive(Clone, Debug, PartialEq, Eq)]
 pub enum BoxCall {
@@ -11,6 +14,9 @@ pub enum BoxCall {
     Register,
     /// `crustnewt_box_deregister`.
     Deregister,
+    /// `crustnewt_box_report`: how many sets, memory that begins with them, and
+    /// how many octets of it are lent.
+    Report(u8, Vec<u8>, usize),
     /// `crustnewt_box_hear`.
     Hear(Vec<u8>, u32),
     /// `crustnewt_box_tick`.
@@ -45,6 +51,16 @@ pub enum HeadCall {
 }
 
 impl BoxCall {
+    /// The same call, with this filler behind what it lends.
+    pub fn with_behind(&self, filler: u8) -> BoxCall {
+        let mut call = self.clone();
+        if let BoxCall::Report(_, sets, lent) = &mut call {
+            sets.truncate(*lent);
+            sets.resize(*lent + BEHIND, filler);
+        }
+        call
+    }
+
     /// How far it is to advance, where it does.
     pub fn ticks(&self) -> Option<u64> {
         match *self {
@@ -91,6 +107,7 @@ impl Face for Library {
             BoxCall::Fresh(address) => sys::box_fresh(*address, memory),
             BoxCall::Register => sys::box_register(memory),
             BoxCall::Deregister => sys::box_deregister(memory),
+            BoxCall::Report(number, sets, lent) => sys::box_report(*number, &sets[..*lent], memory),
             BoxCall::Hear(octets, random) => sys::box_hear(octets, *random, memory),
             BoxCall::Tick => sys::box_tick(memory),
             BoxCall::Advance(ticks) => sys::box_advance(*ticks, memory, made),

@@ -1,8 +1,10 @@
 //! Octets and words to hand in.
 
 use crate::judge::SOURCE;
-use crustnewt::sys::{BOX_WORDS, FRAME_OCTETS};
-use crustnewt::{AckFlag, Body, Grant, Granted, Message, RegisterFlag, RequestFlag, UpTo};
+use crustnewt::sys::{BOX_WORDS, FRAME_OCTETS, LINK_WORDS};
+use crustnewt::{
+    AckFlag, Body, Grant, Granted, Message, QueueSets, RegisterFlag, RequestFlag, UpTo,
+};
 use crustnewt_tool::dice::Dice;
 
 /// The head of every case.
@@ -10,6 +12,8 @@ pub const HEAD: u64 = 0x0200_0000_0001;
 /// The box of every case.
 pub const BOX: u64 = 0x0200_0000_0031;
 const EVERYONE: u64 = 0x0180_C200_0001;
+/// Octets of a frame's body.
+const BODY_OCTETS: usize = FRAME_OCTETS - 20;
 
 /// Where a box's words have its transmitter, and the first of its grants.
 const LIGHT: usize = 8;
@@ -82,6 +86,15 @@ pub fn any_box(dice: &mut Dice) -> Vec<u64> {
     block
 }
 
+/// A table of so many idle links, or with the box registered on this one.
+pub fn any_links(dice: &mut Dice, links: usize, held: usize) -> Vec<u64> {
+    let mut table = vec![[0; LINK_WORDS]; links];
+    if dice.chance(500) && held > 0 {
+        table[held - 1] = [BOX, 2, 0, 62_500_000, 3_125_000];
+    }
+    table.into_flattened()
+}
+
 /// Sets one word to another, often where a field ends.
 pub fn spoil(dice: &mut Dice, words: &mut [u64]) {
     let at = dice.below(words.len() as u64) as usize;
@@ -135,14 +148,60 @@ pub fn source(dice: &mut Dice) -> u64 {
     }
 }
 
+/// How many queue sets, and octets for them: mostly whole sets, about as many
+/// as there is room for; else an octet too few or too many, or another number.
+pub fn sets(dice: &mut Dice) -> (u8, Vec<u8>) {
+    let most = dice.pick(&[0, 9, 38, 39, 39, 40, 41, 300]);
+    let (mut number, mut sets) = (0_u8, Vec::new());
+    while sets.len() < most && number < u8::MAX {
+        let (bit, any) = (1 << dice.below(8), dice.half() as u8);
+        let mut bitmap: u8 = dice.pick(&[0, bit, 0xFF, any]);
+        while sets.len() + 2 * bitmap.count_ones() as usize >= most {
+            bitmap &= bitmap - 1;
+        }
+        sets.push(bitmap);
+        sets.extend((0..2 * bitmap.count_ones()).map(|_| dice.half() as u8));
+        number += 1;
+    }
+    match dice.below(12) {
+        0 => number = number.wrapping_add(1),
+        1 => number = number.wrapping_sub(1),
+        2 => number = dice.half() as u8,
+        3 => sets.push(dice.pick(&[0, 1])),
+        4 | 5 => sets.truncate(sets.len().saturating_sub(1 + dice.below(2) as usize)),
+        _ => {}
+    }
+    (number, sets)
+}
+
+/// A body of such sets, cut off or padded: in range or not.
+fn report(dice: &mut Dice) -> QueueSets {
+    let (number, sets) = sets(dice);
+    let mut octets = [dice.pick(&[0, 0, 0xFF]); BODY_OCTETS];
+    octets[0] = number;
+    for (octet, said) in octets[1..].iter_mut().zip(sets) {
+        *octet = said;
+    }
+    QueueSets::of_octets(octets)
+}
+
 fn made_up(dice: &mut Dice) -> Vec<u8> {
     let body = body(dice);
     let (to, from) = (address(dice) % (1 << 48), source(dice));
     let stamp = dice.below(2000) as u32;
     let mut frame = [0; FRAME_OCTETS];
+    let empty = Body::Report(QueueSets::NONE);
+    let written = match body {
+        Body::Report(_) => empty,
+        other => other,
+    };
     // Refused, it is zeros, which are no frame.
-    let _ = Message::new(to, HEAD, stamp, &body).write(&mut frame);
-    // The writer would refuse a source that is to be refused by the reader.
+    let _ = Message::new(to, HEAD, stamp, &written).write(&mut frame);
+    // The writer would refuse a source, and a REPORT's body, that are to be
+    // refused by the reader.
+    if let Body::Report(sets) = body {
+        frame[FRAME_OCTETS - BODY_OCTETS..].copy_from_slice(&sets.octets());
+    }
     frame[SOURCE].copy_from_slice(&from.to_be_bytes()[2..]);
     frame.to_vec()
 }
@@ -169,7 +228,7 @@ fn body(dice: &mut Dice) -> Body {
             Body::Gate(UpTo::of(&[granted; 4][..grants]).unwrap_or_default())
         }
         2 => Body::Discovery { granted, sync },
-        3 => Body::Report,
+        3 => Body::Report(report(dice)),
         4 => Body::RegisterReq {
             flag: dice.pick(&[RequestFlag::Register, RequestFlag::Deregister]),
             pending,

@@ -5,6 +5,7 @@ mod frames;
 mod messages;
 mod on_box;
 mod on_head;
+mod reports;
 mod states;
 
 pub use frames::{judge_read, judge_write, SOURCE};
@@ -36,6 +37,7 @@ const FILLERS: [u8; 2] = [0xEE, 0x11];
 
 const DONE: u8 = 0;
 const RANGE: u8 = Refusal::Range as u8;
+const STATE: u8 = Refusal::State as u8;
 const GRANT: u8 = Refusal::Grant as u8;
 const OUTPUT: u8 = Refusal::Output as u8;
 const WINDOW: u8 = Refusal::Window as u8;

@@ -5,7 +5,9 @@
 //! number is the card's, too little lent is 100 and touches nothing, a refusal
 //! changes nothing, what lies behind the part that is used stays, and nothing
 //! rests on it; an advance says what it made; no message and no frame is from a
-//! group or nobody. What a call should answer beyond that is for `check` to say.
+//! group or nobody; a report has the sets that it was asked for, and a notice
+//! those of the REPORT that was heard. What a call should answer beyond that is
+//! for `check` to say.
 
 mod call;
 mod guarded;

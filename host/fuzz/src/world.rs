@@ -2,7 +2,9 @@
 //! their words spoiled now and then.
 
 use crate::call::{BoxCall, Face, HeadCall};
-use crate::inputs::{address, any_box, frame, relight, source, spoil, ticks, within, BOX, HEAD};
+use crate::inputs::{
+    address, any_box, any_links, frame, relight, sets, source, spoil, ticks, within, BOX, HEAD,
+};
 use crate::judge::{
     judge_box, judge_box_until, judge_head, judge_head_until, judge_next, judge_read, judge_write,
     BoxLent, HeadLent, Left,
@@ -33,19 +35,20 @@ pub struct World<'a> {
 }
 
 impl<'a> World<'a> {
-    /// A box in any state and a fresh head.
+    /// A box in any state, and a head that is fresh or holds it.
     pub fn new(face: &'a dyn Face, seed: u64) -> World<'a> {
         let mut dice = Dice::new(seed);
         let links = dice.pick(&[1, 1, 2, 3, 8, 63, 64, 65, 0]);
         let block = any_box(&mut dice);
         let mut head = vec![0; HEAD_WORDS];
         head[0] = HEAD;
+        let links = any_links(&mut dice, links, usual(links));
         World {
             face,
             dice,
             block,
             head,
-            links: vec![0; LINK_WORDS * links],
+            links,
             frames: Vec::new(),
         }
     }
@@ -192,13 +195,18 @@ impl<'a> World<'a> {
 
     fn box_call(&mut self) -> BoxCall {
         let dice = &mut self.dice;
-        match dice.below(12) {
+        match dice.below(13) {
             0 if dice.chance(500) => BoxCall::Fresh(address(dice)),
             0 | 1 => BoxCall::Fresh(BOX),
             2 => BoxCall::Register,
             3 if dice.chance(300) => BoxCall::Deregister,
             3..=5 => BoxCall::Tick,
             6 | 7 => BoxCall::Advance(ticks(dice, &self.block[BOX_TIMERS])),
+            8 => {
+                let (number, sets) = sets(dice);
+                let lent = sets.len();
+                BoxCall::Report(number, sets, lent)
+            }
             _ => BoxCall::Hear(frame(dice, &self.frames), dice.half()),
         }
     }
@@ -206,7 +214,7 @@ impl<'a> World<'a> {
     fn head_call(&mut self) -> HeadCall {
         let links = self.links.len() / LINK_WORDS;
         let dice = &mut self.dice;
-        let link = within(dice, links.min(2), links + 2);
+        let link = within(dice, usual(links), links + 2);
         let (sync, pending) = (dice.below(80) as u32, dice.half() as u8);
         match dice.below(14) {
             0 if dice.chance(500) => HeadCall::Fresh(address(dice)),
@@ -229,6 +237,11 @@ impl<'a> World<'a> {
             _ => HeadCall::Hear(link, frame(dice, &self.frames)),
         }
     }
+}
+
+/// The link of a table of so many that is asked for most.
+fn usual(links: usize) -> usize {
+    links.min(2)
 }
 
 /// A window, mostly one that can be opened at the head's count.

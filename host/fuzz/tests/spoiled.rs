@@ -1,8 +1,10 @@
 //! The fuzzer finds a face that breaks a promise, and reaches every number.
 
 use crustnewt::sys::{BoxMemory, HeadMemory, MESSAGE_WORDS};
+use crustnewt::{QueueSet, QueueSets};
 use fuzz::{fuzz, BoxCall, Face, HeadCall, Library};
 use std::cell::Cell;
+use std::ops::Range;
 
 /// What is wrong with a spoiled face.
 #[derive(Clone, Copy, Debug, PartialEq, Eq)]
@@ -84,7 +86,37 @@ enum Flaw {
     SendsGroup,
     /// A head hands out a frame that is from nobody.
     SendsZero,
+    /// An octet that is lent behind the sets of a report is passed over.
+    PassesOverOctet,
+    /// An octet that a report lacks is taken from behind what is lent.
+    TakesUnlent,
+    /// A report of a box that isn't registered is answered by its sets.
+    FourBeforeSeven,
+    /// A report that is refused for its sets starts the timer all the same.
+    RefusedRestarts,
+    /// A report has something behind its sets.
+    SendsPad,
+    /// A report of sets is sent without them.
+    SendsEmpty,
+    /// The sets of a notice aren't written.
+    SetsUntold,
+    /// A notice tells a length that the REPORT doesn't have.
+    OtherSets,
+    /// A notice of something else tells sets.
+    StraySets,
+    /// Sets that run past a frame are read up to there.
+    ReadsPast,
+    /// What is behind the sets of a REPORT is read.
+    ReadsPad,
+    /// A REPORT that isn't zero behind its sets is written.
+    WritesPad,
 }
+
+/// Where the words of a message have the body of a REPORT.
+const SETS: Range<usize> = 4..9;
+/// The kinds of a message and of a notice that have sets.
+const REPORT_KIND: u64 = 2;
+const REPORT_NOTICE: u64 = 4;
 
 /// The octets, from a party where they were from a group.
 fn ungrouped(octets: &[u8]) -> Vec<u8> {
@@ -105,6 +137,30 @@ fn unzeroed(octets: &[u8]) -> Vec<u8> {
     octets
 }
 
+/// The octets, with the sets of a REPORT that run past left out.
+fn without_past(octets: &[u8]) -> Vec<u8> {
+    let mut octets = octets.to_vec();
+    let report = octets.get(15) == Some(&3);
+    let is_past = |octets: &[u8]| Library.read(octets, &mut [0; MESSAGE_WORDS]) == 4;
+    while report && octets.get(20) > Some(&0) && is_past(&octets) {
+        octets[20] -= 1;
+    }
+    octets
+}
+
+/// Zeros what is behind the sets of a REPORT.
+fn without_pad(words: &mut [u64]) {
+    let octets: Vec<u8> = words.iter().flat_map(|word| word.to_be_bytes()).collect();
+    let sets = QueueSets::of_octets(octets.try_into().unwrap());
+    let taken = |set: QueueSet| 1 + 2 * set.bitmap.count_ones() as usize;
+    let taken = 1 + sets.iter().map(taken).sum::<usize>();
+    let mut octets = sets.octets();
+    octets[taken..].fill(0);
+    for (word, octets) in words.iter_mut().zip(octets.as_chunks().0) {
+        *word = u64::from_be_bytes(*octets);
+    }
+}
+
 struct Spoiled {
     flaw: Flaw,
     calls: Cell<u64>,
@@ -123,7 +179,41 @@ impl Spoiled {
             (Flaw::HearsGroup, BoxCall::Hear(octets, random)) => {
                 BoxCall::Hear(ungrouped(octets), *random)
             }
+            (Flaw::PassesOverOctet, BoxCall::Report(number, sets, lent @ 1..)) => {
+                let one_less = QueueSets::of(*number, &sets[..lent - 1]).is_some();
+                BoxCall::Report(*number, sets.clone(), lent - usize::from(one_less))
+            }
+            (Flaw::TakesUnlent, BoxCall::Report(number, sets, lent)) => {
+                let one_more = QueueSets::of(*number, &sets[..lent + 1]).is_some();
+                BoxCall::Report(*number, sets.clone(), lent + usize::from(one_more))
+            }
             _ => call.clone(),
+        }
+    }
+
+    /// What a report has done, spoiled after it did.
+    fn spoil_report(&self, asked: (u8, &[u8]), number: u8, memory: &mut BoxMemory<'_>) -> u8 {
+        let (sets, octets) = asked;
+        match (self.flaw, number) {
+            (Flaw::FourBeforeSeven, 7) if QueueSets::of(sets, octets).is_none() => return 4,
+            (Flaw::RefusedRestarts, 4) if memory.block[5] < 3_125_000 => {
+                memory.block[5] = 3_125_000
+            }
+            (Flaw::SendsPad, 0) => memory.frames[59] |= 1,
+            (Flaw::SendsEmpty, 0) => memory.frames[20..60].fill(0),
+            _ => {}
+        }
+        number
+    }
+
+    /// The words of a notice, spoiled; `before` is what stood there.
+    fn spoil_notice(&self, before: &[u64], notice: &mut [u64]) {
+        let is_report = notice[0] == REPORT_NOTICE;
+        match self.flaw {
+            Flaw::SetsUntold => notice[3..8].copy_from_slice(&before[3..8]),
+            Flaw::OtherSets if is_report && notice[3] != 0 => notice[3] ^= 1,
+            Flaw::StraySets if !is_report => notice[3] = 1 << 56,
+            _ => {}
         }
     }
 
@@ -135,6 +225,26 @@ impl Spoiled {
             }
             _ => call.clone(),
         }
+    }
+
+    /// What a head has done, spoiled after it did.
+    fn spoil_head(&self, call: &HeadCall, number: u8, memory: &mut HeadMemory<'_>) -> u8 {
+        let behind = memory.links.len() / 5 * 5;
+        match memory.links.get_mut(behind) {
+            Some(word) if self.is(Flaw::StrayLink) && number == 0 => *word = 0,
+            _ => {}
+        }
+        match (self.flaw, number) {
+            (Flaw::RefusalTells, 6) => memory.reply[0] = 1,
+            (Flaw::SendsZero, 0) if memory.reply[0] > 0 => memory.output[6..12].fill(0),
+            (Flaw::StrayNotice, 0) if memory.reply[1] == 0 => memory.reply[2] = 0,
+            (Flaw::RefusesSound, 6) if memory.links.get(6).is_some_and(|&state| state > 0) => {
+                return 13
+            }
+            (Flaw::TakesNobodys, 13) if memory.head[2] == 0 && *call != HeadCall::Tick => return 6,
+            _ => {}
+        }
+        number
     }
 
     /// What a box's advance says that it made, spoiled after it did.
@@ -172,6 +282,9 @@ impl Face for Spoiled {
         if let Some(ticks) = call.ticks() {
             self.spoil_made(number, ticks, made);
         }
+        if let BoxCall::Report(sets, octets, lent) = call {
+            return self.spoil_report((*sets, &octets[..*lent]), number, &mut memory);
+        }
         self.calls.set(self.calls.get() + 1);
         match (self.flaw, number) {
             (Flaw::StrangeNumber, 7) => return 15,
@@ -189,6 +302,7 @@ impl Face for Spoiled {
 
     fn on_head(&self, call: &HeadCall, mut memory: HeadMemory<'_>, made: &mut [u64]) -> u8 {
         let before = made.first().copied();
+        let unsaid = memory.reply.to_vec();
         let HeadMemory {
             head,
             links,
@@ -213,22 +327,10 @@ impl Face for Spoiled {
                 _ => {}
             }
         }
-        let behind = memory.links.len() / 5 * 5;
-        match memory.links.get_mut(behind) {
-            Some(word) if self.is(Flaw::StrayLink) && number == 0 => *word = 0,
-            _ => {}
+        if number == 0 && memory.reply[1] == 1 {
+            self.spoil_notice(&unsaid[2..], &mut memory.reply[2..]);
         }
-        match (self.flaw, number) {
-            (Flaw::RefusalTells, 6) => memory.reply[0] = 1,
-            (Flaw::SendsZero, 0) if memory.reply[0] > 0 => memory.output[6..12].fill(0),
-            (Flaw::StrayNotice, 0) if memory.reply[1] == 0 => memory.reply[2] = 0,
-            (Flaw::RefusesSound, 6) if memory.links.get(6).is_some_and(|&state| state > 0) => {
-                return 13
-            }
-            (Flaw::TakesNobodys, 13) if memory.head[2] == 0 && *call != HeadCall::Tick => return 6,
-            _ => {}
-        }
-        number
+        self.spoil_head(call, number, &mut memory)
     }
 
     fn box_ticks_until(&self, block: &[u64]) -> u64 {
@@ -260,9 +362,14 @@ impl Face for Spoiled {
         let taken = match self.flaw {
             Flaw::ReadsGroup => ungrouped(octets),
             Flaw::ReadsZero => unzeroed(octets),
+            Flaw::ReadsPast => without_past(octets),
             _ => octets.to_vec(),
         };
         match Library.read(&taken, message) {
+            0 if self.is(Flaw::ReadsPad) && message[3] == REPORT_KIND => {
+                message[8] |= u64::from(octets[59]);
+                0
+            }
             0 if self.is(Flaw::JudgesDestination) && octets[0] & 1 == 1 => {
                 // Its words are blank, as a refused frame's are.
                 Library.read(&[], message);
@@ -283,6 +390,11 @@ impl Face for Spoiled {
             (Flaw::WritesZero, Some(source @ 0)) => *source = 2,
             _ => {}
         }
+        let is_report = message.get(3) == Some(&REPORT_KIND);
+        match message.get_mut(SETS) {
+            Some(sets) if self.is(Flaw::WritesPad) && is_report => without_pad(sets),
+            _ => {}
+        }
         let number = Library.write(&message, octets);
         if self.is(Flaw::HalfWritten) && number == 4 {
             octets[12] = 0x88;
@@ -298,48 +410,63 @@ fn spoiled(flaw: Flaw) -> Spoiled {
     }
 }
 
+/// Every flaw.
+const FLAWS: [Flaw; 50] = [
+    Flaw::StrangeNumber,
+    Flaw::RefusalCounts,
+    Flaw::ShortIsTouched,
+    Flaw::StrayOctet,
+    Flaw::StrayLink,
+    Flaw::RefusalTells,
+    Flaw::LeavesUnsound,
+    Flaw::Moody,
+    Flaw::HalfWritten,
+    Flaw::WritesStray,
+    Flaw::ReadsOn,
+    Flaw::SendsNothing,
+    Flaw::TakesNobodys,
+    Flaw::StrayNotice,
+    Flaw::RefusesSound,
+    Flaw::MadeOfRefusal,
+    Flaw::MadeUnsaid,
+    Flaw::MadeTooMany,
+    Flaw::MadeNone,
+    Flaw::MadeOneLess,
+    Flaw::MadeBehind,
+    Flaw::MadeOfShort,
+    Flaw::MadeUnlent,
+    Flaw::TakesMore,
+    Flaw::RefusedAdvances,
+    Flaw::NineBeforeTwelve,
+    Flaw::StopsEarly,
+    Flaw::UntilMore,
+    Flaw::UntilUnsound,
+    Flaw::ReadsGroup,
+    Flaw::ReadsZero,
+    Flaw::JudgesDestination,
+    Flaw::WritesGroup,
+    Flaw::WritesZero,
+    Flaw::HearsGroup,
+    Flaw::HearsZero,
+    Flaw::SendsGroup,
+    Flaw::SendsZero,
+    Flaw::PassesOverOctet,
+    Flaw::TakesUnlent,
+    Flaw::FourBeforeSeven,
+    Flaw::RefusedRestarts,
+    Flaw::SendsPad,
+    Flaw::SendsEmpty,
+    Flaw::SetsUntold,
+    Flaw::OtherSets,
+    Flaw::StraySets,
+    Flaw::ReadsPast,
+    Flaw::ReadsPad,
+    Flaw::WritesPad,
+];
+
 #[test]
 fn each_flaw_is_found() {
-    for flaw in [
-        Flaw::StrangeNumber,
-        Flaw::RefusalCounts,
-        Flaw::ShortIsTouched,
-        Flaw::StrayOctet,
-        Flaw::StrayLink,
-        Flaw::RefusalTells,
-        Flaw::LeavesUnsound,
-        Flaw::Moody,
-        Flaw::HalfWritten,
-        Flaw::WritesStray,
-        Flaw::ReadsOn,
-        Flaw::SendsNothing,
-        Flaw::TakesNobodys,
-        Flaw::StrayNotice,
-        Flaw::RefusesSound,
-        Flaw::MadeOfRefusal,
-        Flaw::MadeUnsaid,
-        Flaw::MadeTooMany,
-        Flaw::MadeNone,
-        Flaw::MadeOneLess,
-        Flaw::MadeBehind,
-        Flaw::MadeOfShort,
-        Flaw::MadeUnlent,
-        Flaw::TakesMore,
-        Flaw::RefusedAdvances,
-        Flaw::NineBeforeTwelve,
-        Flaw::StopsEarly,
-        Flaw::UntilMore,
-        Flaw::UntilUnsound,
-        Flaw::ReadsGroup,
-        Flaw::ReadsZero,
-        Flaw::JudgesDestination,
-        Flaw::WritesGroup,
-        Flaw::WritesZero,
-        Flaw::HearsGroup,
-        Flaw::HearsZero,
-        Flaw::SendsGroup,
-        Flaw::SendsZero,
-    ] {
+    for flaw in FLAWS {
         let face = spoiled(flaw);
         let found = (0..1000).any(|seed| fuzz(&face, seed, &mut [0; 256]).is_err());
         assert!(found, "{flaw:?}");

@@ -11,6 +11,7 @@ use crate::frame::{Body, Frame, Message};
 use crate::grants::{GrantList, Granted};
 use crate::light::Light;
 use crate::numbers::quanta_for;
+use crate::queue_sets::QueueSets;
 use crate::refusal::{require, Refusal};
 
 /// The box at a floor (ONU).
@@ -138,6 +139,18 @@ impl FloorBox {
         Ok(answer)
     }
 
+    /// The client asks for a REPORT of so many queue sets, which are handed in
+    /// as they stand in a frame (R242, R243).
+    pub fn report(&mut self, number: u8, sets: &[u8]) -> Result<BoxAnswer, Refusal> {
+        require(self.is_sound(), Refusal::Unsound)?;
+        require(self.state == BoxState::Registered, Refusal::NotNow)?;
+        let sets = QueueSets::of(number, sets).ok_or(Refusal::OutOfRange)?;
+        let mut answer = BoxAnswer::default();
+        self.send_report(sets, &mut answer);
+        self.activate();
+        Ok(answer)
+    }
+
     /// A message arrives; `random` is for the random wait of a discovery
     /// grant.
     pub fn hear(&mut self, message: &Message, random: u32) -> Result<BoxAnswer, Refusal> {
@@ -202,6 +215,6 @@ impl FloorBox {
 fn goes_down(body: &Body) -> bool {
     match body {
         Body::Gate(_) | Body::Discovery { .. } | Body::Register { .. } => true,
-        Body::Report | Body::RegisterReq { .. } | Body::RegisterAck { .. } => false,
+        Body::Report(_) | Body::RegisterReq { .. } | Body::RegisterAck { .. } => false,
     }
 }

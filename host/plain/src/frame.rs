@@ -8,6 +8,7 @@ use crate::clock::Count;
 use crate::few::Few;
 use crate::grants::{Grant, Granted};
 use crate::numbers::LONGEST;
+use crate::queue_sets::QueueSets;
 
 pub use read::read;
 pub(crate) use write::octets;
@@ -57,8 +58,8 @@ pub enum Body {
         /// Sync time that the head needs.
         sync: u32,
     },
-    /// A REPORT without queue sets.
-    Report,
+    /// A REPORT and its queue sets.
+    Report(QueueSets),
     /// A box asks to register or tells that it leaves.
     RegisterReq {
         /// Which of the two.
@@ -155,8 +156,8 @@ pub enum AckFlag {
 }
 
 impl Message {
-    /// Whether addresses, lengths and sync time are in range: all else that a
-    /// message can hold is. Of the destination its width alone is judged
+    /// Whether addresses, lengths, sync time and queue sets are in range: all
+    /// else that a message can hold is. Of the destination its width alone is judged
     /// (R48), of the source whether a party may hold it (R237).
     pub fn in_range(&self) -> bool {
         self.to.in_range() && self.from.is_individual() && self.body.in_range()
@@ -169,7 +170,8 @@ impl Body {
             Body::Gate(gate) => gate.iter().all(|granted| granted.grant.in_range()),
             Body::Discovery { granted, sync } => granted.grant.in_range() && sync <= LONGEST,
             Body::Register { sync, .. } | Body::RegisterAck { sync, .. } => sync <= LONGEST,
-            Body::Report | Body::RegisterReq { .. } => true,
+            Body::Report(sets) => sets.in_range(),
+            Body::RegisterReq { .. } => true,
         }
     }
 }

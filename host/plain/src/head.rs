@@ -12,6 +12,7 @@ use crate::link::{are_sound, Link, LinkState};
 use crate::numbers::{
     needed_length, run_out, runs, FURTHEST_START, LONGEST, LONGEST_WINDOW, MOST_LINKS, PERIOD,
 };
+use crate::queue_sets::QueueSets;
 use crate::refusal::{require, Refusal};
 use post::Post;
 
@@ -102,6 +103,8 @@ pub struct HeadNotice {
     pub link: u64,
     /// Round trip of the message, modulo 2^32.
     pub trip: u32,
+    /// Queue sets of a report, none in any other notice (R151).
+    pub sets: QueueSets,
 }
 
 /// Kinds of the head's notices.

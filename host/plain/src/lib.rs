@@ -18,6 +18,7 @@ mod head;
 mod light;
 mod link;
 pub mod numbers;
+mod queue_sets;
 mod refusal;
 
 pub use address::Address;
@@ -32,4 +33,5 @@ pub use head::{
 };
 pub use light::Light;
 pub use link::{Link, LinkState};
+pub use queue_sets::{QueueSet, QueueSets};
 pub use refusal::Refusal;

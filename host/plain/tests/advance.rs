@@ -4,12 +4,14 @@
 use plain::frame::{read, RegisterFlag, RequestFlag};
 use plain::{
     Address, Advanced, Body, BoxAnswer, BoxNotice, BoxState, Count, FloorBox, Grant, GrantList,
-    Head, HeadAnswer, Light, Link, LinkState, Message, Refusal, Window,
+    Head, HeadAnswer, Light, Link, LinkState, Message, QueueSets, Refusal, Window,
 };
 
 const HEAD: Address = Address(0x0A0B_0C0D_0E0F);
 const BOX: Address = Address(0x0200_0000_0031);
 const OTHER: Address = Address(0x0200_0000_0032);
+/// A REPORT of no sets.
+const EMPTY: Body = Body::Report(QueueSets::NONE);
 
 fn grant(start: u32, length: u32) -> Grant {
     let start = Count(start);
@@ -144,7 +146,7 @@ fn a_report_stops_it_with_the_stamp_of_its_own_tick() {
         to: Address::EVERYONE,
         from: BOX,
         stamp: Count(1100),
-        body: Body::Report,
+        body: EMPTY,
     };
     assert_eq!(frames, [report]);
     assert_eq!(floor_box, registered(1100, 62_499_900, 3_125_000));

@@ -3,13 +3,15 @@
 use plain::frame::{read, write, AckFlag, RegisterFlag, RequestFlag};
 use plain::{
     Address, Body, BoxAnswer, BoxNotice, BoxState, Count, FloorBox, Gate, Grant, GrantList,
-    Granted, Light, Message, Next, Refusal,
+    Granted, Light, Message, Next, QueueSets, Refusal,
 };
 
 const BOX: Address = Address(0x0200_0000_0031);
 const HEAD: Address = Address(0x0A0B_0C0D_0E0F);
 /// A group's: the lowest bit of its first octet is set.
 const GROUP: Address = Address(0x0313_4657_8A9B);
+/// A REPORT of no sets.
+const EMPTY: Body = Body::Report(QueueSets::NONE);
 
 fn grant(start: u32, length: u32) -> Grant {
     let start = Count(start);
@@ -218,7 +220,7 @@ fn ack_registers_and_reports() {
         sync: 10,
     };
     assert_eq!(answer.drift, 1000);
-    assert_eq!(bodies(&answer), [ack, Body::Report]);
+    assert_eq!(bodies(&answer), [ack, EMPTY]);
     assert_eq!(notices(&answer), [BoxNotice::Registered]);
     assert_eq!(
         floor_box,
@@ -300,7 +302,7 @@ fn order_of_tests_at_the_box() {
     let other = Address(2);
     let report = Message {
         to: other,
-        ..to_box(0, Body::Report)
+        ..to_box(0, EMPTY)
     };
     assert_eq!(floor_box.hear(&report, 0), Err(Refusal::WrongWay));
     let long = gate(0, &[grant(0, 65_536)]);
@@ -467,7 +469,7 @@ fn report_is_periodic() {
         ..registered(0xFFFF_FFFF, 0)
     };
     let answer = floor_box.tick().unwrap();
-    assert_eq!(bodies(&answer), [Body::Report]);
+    assert_eq!(bodies(&answer), [EMPTY]);
     assert_eq!(floor_box.report, 3_125_000);
     assert_eq!(floor_box.count, Count(0));
 }
@@ -522,6 +524,7 @@ fn assert_unsound(mut floor_box: FloorBox) {
     assert_eq!(floor_box.tick(), Err(Refusal::Unsound), "{before:?}");
     assert_eq!(floor_box.register(), Err(Refusal::Unsound));
     assert_eq!(floor_box.deregister(), Err(Refusal::Unsound));
+    assert_eq!(floor_box.report(0, &[]), Err(Refusal::Unsound));
     assert_eq!(floor_box, before);
 }
 

@@ -1,10 +1,12 @@
 //! Frames worked by hand from the rules (R30 to R51).
 
 use plain::frame::{read, write, AckFlag, RegisterFlag, RequestFlag};
-use plain::{Address, Body, Count, Frame, Gate, Grant, Granted, Message, Refusal};
+use plain::{Address, Body, Count, Frame, Gate, Grant, Granted, Message, QueueSets, Refusal};
 
 const HEAD: Address = Address(0x0A0B_0C0D_0E0F);
 const BOX: Address = Address(0x0200_0000_0031);
+/// A REPORT of no sets.
+const EMPTY: Body = Body::Report(QueueSets::NONE);
 
 /// A frame from its first octets; the rest is pad.
 fn frame(octets: &[u8]) -> Frame {
@@ -62,7 +64,7 @@ fn report_from(source: u64, octets: [u8; 6]) -> (Message, Frame) {
         to: Address::EVERYONE,
         from: Address(source),
         stamp: Count(0x6C6D_6E6F),
-        body: Body::Report,
+        body: EMPTY,
     };
     let mut report = vec![0x01, 0x80, 0xC2, 0, 0, 1];
     report.extend(octets);
@@ -104,7 +106,7 @@ fn discovery_gate_has_its_sync_after_the_grant() {
 
 #[test]
 fn report_and_register_req() {
-    agrees(Body::Report, whole(3, &[0]));
+    agrees(EMPTY, whole(3, &[0]));
     let req = |flag, pending| Body::RegisterReq { flag, pending };
     agrees(req(RequestFlag::Register, 16), whole(4, &[1, 16]));
     agrees(req(RequestFlag::Deregister, 0), whole(4, &[3, 0]));
@@ -165,7 +167,7 @@ fn fields_out_of_range_are_four() {
         (2, &[0x42]), // force bit 3 of two grants
         (2, &[8]),    // discovery without a grant
         (2, &[0x0A]), // discovery with two
-        (3, &[1]),    // a queue set
+        (3, &[40]),   // forty queue sets
         (4, &[0]),
         (4, &[2]),
         (5, &[0, 1, 0]),
@@ -256,7 +258,7 @@ fn destinations_are_not_judged() {
         agree(
             Message {
                 to,
-                ..message(Body::Report)
+                ..message(EMPTY)
             },
             frame,
         );
@@ -269,7 +271,7 @@ fn the_blank_message_has_no_frame() {
         to: Address::ZERO,
         from: Address::ZERO,
         stamp: Count(0),
-        body: Body::Report,
+        body: EMPTY,
     };
     out_of_range(blank, frame(&[&[0; 12][..], &[0x88, 0x08, 0, 3]].concat()));
 }
@@ -278,11 +280,11 @@ fn the_blank_message_has_no_frame() {
 fn writer_refuses_what_the_wire_cannot_hold() {
     let wide_source = Message {
         from: Address(HEAD.0 | 1 << 48),
-        ..message(Body::Report)
+        ..message(EMPTY)
     };
     let wide_destination = Message {
         to: Address(1 << 48),
-        ..message(Body::Report)
+        ..message(EMPTY)
     };
     let long_grant = message(Body::Gate(Gate::of(&[grant(0, 65_536, false)]).unwrap()));
     let long_sync = message(Body::RegisterAck {

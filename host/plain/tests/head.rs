@@ -3,7 +3,7 @@
 use plain::frame::{read, write, AckFlag, RegisterFlag, RequestFlag};
 use plain::{
     Address, Body, Count, Gate, GateRequest, Grant, Granted, Head, HeadAnswer, HeadNotice,
-    HeadNoticeKind, Link, LinkState, Message, Newcomer, OpenWindow, Refusal, Window,
+    HeadNoticeKind, Link, LinkState, Message, Newcomer, OpenWindow, QueueSets, Refusal, Window,
 };
 
 const HEAD: Address = Address(0x0A0B_0C0D_0E0F);
@@ -11,6 +11,8 @@ const BOX: Address = Address(0x0200_0000_0031);
 const OTHER: Address = Address(0x0200_0000_0032);
 /// A group's: the box's with the lowest bit of its first octet set.
 const GROUP: Address = Address(0x0300_0000_0031);
+/// A REPORT of no sets.
+const EMPTY: Body = Body::Report(QueueSets::NONE);
 
 /// A head with its lent table and output.
 struct Desk {
@@ -99,6 +101,7 @@ fn told(kind: HeadNoticeKind, link: u64, frames: usize) -> HeadAnswer {
         kind,
         link,
         trip: 19,
+        sets: QueueSets::NONE,
     });
     HeadAnswer { frames, notice }
 }
@@ -302,7 +305,7 @@ fn a_request_is_heard_inside_the_window_on_link_zero_only() {
     desk.head.window = Window::Inside { left: 1 };
     let heard = told(HeadNoticeKind::Request, 0, 0);
     assert_eq!(desk.hear(0, BOX, asks), Ok(heard));
-    assert_eq!(desk.hear(0, BOX, Body::Report), Err(Refusal::NoSuchLink));
+    assert_eq!(desk.hear(0, BOX, EMPTY), Err(Refusal::NoSuchLink));
 }
 
 #[test]
@@ -342,7 +345,7 @@ fn a_newcomer_of_a_group_has_no_frame_that_is_read() {
 fn a_link_hears_no_group() {
     let mut desk = Desk::registered(1);
     for from in [Address::ZERO, GROUP] {
-        let answer = desk.hear(1, from, Body::Report);
+        let answer = desk.hear(1, from, EMPTY);
         assert_eq!(answer, Err(Refusal::NotMine), "{from}");
     }
 }
@@ -374,7 +377,7 @@ fn reports_restart_the_watchdog() {
     desk.head.count = Count(3);
     desk.links[0].watchdog = 9;
     let heard = told(HeadNoticeKind::Report, 1, 0);
-    assert_eq!(desk.hear(1, BOX, Body::Report), Ok(heard));
+    assert_eq!(desk.hear(1, BOX, EMPTY), Ok(heard));
     assert_eq!(desk.links, Desk::registered(1).links);
 }
 
@@ -394,7 +397,7 @@ fn messages_without_a_step_are_accepted() {
     let nothing = HeadAnswer::default();
     let mut waiting = Desk::fresh(1);
     waiting.admit(BOX).unwrap();
-    assert_eq!(waiting.hear(1, BOX, Body::Report), Ok(nothing));
+    assert_eq!(waiting.hear(1, BOX, EMPTY), Ok(nothing));
     let leaves = request(RequestFlag::Deregister);
     assert_eq!(waiting.hear(1, BOX, leaves), Ok(nothing));
     let mut registered = Desk::registered(1);
@@ -409,7 +412,7 @@ fn order_of_tests_at_the_head() {
     assert_eq!(desk.hear(9, OTHER, gate), Err(Refusal::ShortOutput));
     desk.output.push(0);
     assert_eq!(desk.hear(9, OTHER, gate), Err(Refusal::WrongWay));
-    assert_eq!(desk.hear(9, OTHER, Body::Report), Err(Refusal::NoSuchLink));
+    assert_eq!(desk.hear(9, OTHER, EMPTY), Err(Refusal::NoSuchLink));
     desk.links[0].wait = 1;
     desk.output.clear();
     assert_eq!(desk.hear(9, OTHER, gate), Err(Refusal::Unsound));

@@ -1,9 +1,11 @@
 //! A simulated night: a head and its boxes on a fibre.
 
+mod desk;
 mod fibre;
 mod floor;
 mod head_client;
 mod progress;
+mod queues;
 mod record;
 mod scenario;
 mod timeline;
@@ -28,8 +30,10 @@ pub struct Options {
     pub delay: u64,
     /// Frames lost of a thousand.
     pub loss: u64,
-    /// Seed for losses and random waits.
+    /// Seed for losses, random waits and what comes into queues.
     pub seed: u64,
+    /// The floor with a busy stretch, one by the seed where none is named.
+    pub busy: Option<u32>,
     /// How many ticks it lasts.
     pub ticks: u64,
     /// Whether each tick is made one by one.

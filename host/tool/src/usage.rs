@@ -119,6 +119,7 @@ fn night(mut options: Options<'_>) -> Result<Command, String> {
             "--delay" => asked.delay = options.number_in(1..=50_000)?,
             "--loss" => asked.loss = Some(options.number_in(0..=1000)?),
             "--seed" => asked.seed = options.number()?,
+            "--busy" => asked.busy = Some(options.number_in(0..=64)? as u32),
             "--seconds" => asked.seconds = Some(options.number_in(1..=3600)?),
             "--every-tick" => asked.every_tick = true,
             name => core = core_flag(name, &options)?,
@@ -134,6 +135,7 @@ struct Asked {
     delay: u64,
     loss: Option<u64>,
     seed: u64,
+    busy: Option<u32>,
     seconds: Option<u64>,
     every_tick: bool,
 }
@@ -146,6 +148,7 @@ impl Default for Asked {
             delay: 62,
             loss: None,
             seed: 1,
+            busy: None,
             seconds: None,
             every_tick: false,
         }
@@ -160,6 +163,7 @@ impl Asked {
             delay: self.delay,
             loss: self.loss.unwrap_or(self.scenario.loss()),
             seed: self.seed,
+            busy: self.busy,
             ticks: self.seconds.unwrap_or(self.scenario.seconds()) * TICKS_PER_SECOND,
             every_tick: self.every_tick,
         }

@@ -27,6 +27,7 @@ fn options(scenario: Scenario) -> Options {
         delay: 62,
         loss: scenario.loss(),
         seed: 1,
+        busy: None,
         ticks: scenario.seconds() * TICKS_PER_SECOND,
         every_tick: false,
     }
@@ -146,6 +147,159 @@ fn advances_end_where_single_ticks_do() {
         };
         assert_eq!(night(&advancing), night(&every_tick));
     }
+}
+
+/// The floors that the timeline names as the one that waits longest, and how
+/// many quanta their queues have then.
+fn named(timeline: &str) -> Vec<(&str, u64)> {
+    let lines = timeline.lines();
+    let told = lines.filter_map(|line| line.split_once("waits longest: "));
+    let named = told.map(|(who, queue)| {
+        let floor = who.trim_end().rsplit("  ").next().unwrap();
+        (floor, number(queue.split_once(' ').unwrap().0))
+    });
+    named.collect()
+}
+
+fn number(digits: &str) -> u64 {
+    digits.replace(',', "").parse().unwrap()
+}
+
+/// The closing line that begins so, without that.
+fn closing<'a>(timeline: &'a str, begin: &str) -> &'a str {
+    let line = timeline.lines().find_map(|line| line.strip_prefix(begin));
+    line.unwrap_or_else(|| panic!("no {begin} in {timeline}"))
+}
+
+/// Quanta and queue of the longest queue of the night, as its line tells them.
+fn longest(timeline: &str, floor: u32) -> u64 {
+    let told = closing(timeline, &format!("Waited longest: floor {floor}, "));
+    number(told.split_once(" quanta").unwrap().0)
+}
+
+#[test]
+fn the_busy_floor_is_named_until_it_has_caught_up() {
+    for busy in [29, 30, 31] {
+        for delay in [1, 5000] {
+            let asked = Options {
+                busy: Some(busy),
+                delay,
+                ..options(Scenario::Quiet)
+            };
+            let (kept, timeline) = night(&asked);
+            assert!(kept, "{timeline}");
+            let floor = format!("floor {busy}");
+            let [(named, quanta)] = named(&timeline)[..] else {
+                panic!("{timeline}");
+            };
+            assert!(named == floor && quanta > 1024, "{timeline}");
+            // In 300 ms 75 frames of 512 quanta come, besides 1 to 4 that come
+            // anyway; 18 to 20 windows take one or two each, and in another 4
+            // the next REPORT comes.
+            let most = longest(&timeline, busy);
+            assert!((28 * 512..=61 * 512).contains(&most), "{timeline}");
+            let caught_up = format!("{floor}  has caught up, and no floor waits");
+            assert_eq!(timeline.matches(&caught_up).count(), 1, "{timeline}");
+            closing(
+                &timeline,
+                "No floor waits at the end; the longest queue is ",
+            );
+        }
+    }
+}
+
+#[test]
+fn without_a_busy_floor_nobody_waits() {
+    // Floor 7 has no box either.
+    for busy in [0, 7] {
+        let asked = Options {
+            busy: Some(busy),
+            ..options(Scenario::Quiet)
+        };
+        let (_, timeline) = night(&asked);
+        assert!(named(&timeline).is_empty(), "{timeline}");
+        closing(&timeline, "No floor waited; the longest queue was floor ");
+    }
+}
+
+#[test]
+fn a_floor_that_comes_back_has_waited_meanwhile() {
+    let asked = Options {
+        busy: Some(0),
+        ..options(Scenario::Floor31)
+    };
+    let (_, timeline) = night(&asked);
+    assert!(tick_of(&timeline, "waits longest") > tick_of(&timeline, "is registered"));
+    let [("floor 31", _)] = named(&timeline)[..] else {
+        panic!("{timeline}");
+    };
+    // Away for a second: 100 to 200 frames of 44 quanta, 25 to 50 of 140, 6 to
+    // 13 of 512, with what a round more brings.
+    let most = longest(&timeline, 31);
+    assert!((4400..=9000).contains(&most), "{timeline}");
+    assert!(tick_of(&timeline, "has caught up") > tick_of(&timeline, "waits longest"));
+}
+
+#[test]
+fn what_a_floor_told_last_holds_while_it_is_dark() {
+    // Its fibre is cut at 1 s, the night ends at 2.2 s, and 31 waits from the
+    // rush on, which its windows take until 1.1 s or so.
+    let asked = Options {
+        busy: Some(31),
+        ticks: TICKS_PER_SECOND * 11 / 5,
+        ..options(Scenario::Dark)
+    };
+    let (_, timeline) = night(&asked);
+    let told = closing(&timeline, "Waits longest at the end: floor 31, ");
+    let (_, at) = told.rsplit_once(" at ").unwrap();
+    let at: f64 = at.trim_end_matches(" s.").parse().unwrap();
+    assert!(at > 0.9 && at < 1.001, "{timeline}");
+    let row = timeline.lines().rfind(|line| line.starts_with("   31  "));
+    assert!(row.unwrap().contains(told.trim_end_matches('.')));
+}
+
+#[test]
+fn what_came_to_the_boxes_went_or_waits() {
+    for scenario in [Scenario::Quiet, Scenario::Storm, Scenario::Dark] {
+        let asked = Options {
+            busy: Some(0),
+            ticks: 2 * TICKS_PER_SECOND,
+            ..options(scenario)
+        };
+        let (_, timeline) = night(&asked);
+        let told = closing(&timeline, "Data frames: ");
+        let words: Vec<&str> = told.split(' ').collect();
+        let [came, "came", "to", "the", "boxes,", went, "went,", waiting, "wait."] = words[..]
+        else {
+            panic!("{told}");
+        };
+        let [came, went, waiting] = [came, went, waiting].map(number);
+        assert_eq!(came, went + waiting);
+        // In a second a box gets 100 to 200, 25 to 50 and 6 to 13 frames.
+        assert!((2 * 3 * 131..=2 * 3 * 265).contains(&came), "{told}");
+        assert!(waiting < went, "{told}");
+    }
+}
+
+#[test]
+fn who_never_told_is_not_said_to_have_nothing() {
+    let nothing_arrives = Options {
+        loss: 1000,
+        ticks: TICKS_PER_SECOND,
+        ..options(Scenario::Storm)
+    };
+    let (_, timeline) = night(&nothing_arrives);
+    closing(&timeline, "No box has told of its queues.");
+    assert_eq!(timeline.matches("never told").count(), 2 * 3);
+}
+
+#[test]
+fn no_table_is_wider_than_a_hundred_columns() {
+    let (_, timeline) = night(&options(Scenario::Dark));
+    let tables = timeline.split("\n\n").skip(1);
+    assert_eq!(tables.clone().count(), 3);
+    let lines = tables.flat_map(str::lines);
+    assert!({ lines }.all(|line| line.len() <= 100), "{timeline}");
 }
 
 /// One terminal for the timeline and the progress.

@@ -57,6 +57,133 @@ fn read_tells_each_body() {
     assert!(read.contains(" stamp 5 gate 1 7 74 1 frame "), "{read}");
 }
 
+/// A REPORT at count 1000 whose body begins with these digits.
+fn report(body: &str) -> String {
+    frame(&format!("0180c2000001021346578a9b88080003000003e8{body}"))
+}
+
+/// Two full sets of length 0.
+fn two_full() -> String {
+    format!("ff{:032}", 0).repeat(2)
+}
+
+#[test]
+fn read_tells_the_sets_of_a_report() {
+    let zeros = |number| " 0".repeat(number);
+    let full = format!(" 255{}", zeros(8)).repeat(2);
+    for (body, told) in [
+        (
+            "02050102030480ffff".to_owned(),
+            " 2 5 258 772 128 65535".to_owned(),
+        ),
+        ("27".to_owned(), format!(" 39{}", zeros(39))),
+        (
+            format!("0d{}", "010000".repeat(13)),
+            format!(" 13{}", " 1 0".repeat(13)),
+        ),
+        (
+            format!("03{}0300000000", two_full()),
+            format!(" 3{full} 3 0 0"),
+        ),
+        (
+            format!("05{}0100000000", two_full()),
+            format!(" 5{full} 1 0 0 0"),
+        ),
+        ("00".to_owned(), String::new()),
+    ] {
+        let frame = report(&body);
+        let read = "read 0 to 0180c2000001 from 021346578a9b stamp 1000 report";
+        let expected = format!("{read}{told} frame {frame}\n");
+        assert_eq!(answers(format!("read {frame}\n").as_bytes()), expected);
+    }
+}
+
+#[test]
+fn sets_that_run_past_the_frame_are_4() {
+    for body in [
+        "28".to_owned(),
+        "ff".to_owned(),
+        format!("0e{}", "010000".repeat(13)),
+        format!("03{}0700000000", two_full()),
+        format!("05{}0100000001", two_full()),
+    ] {
+        let past = report(&body);
+        assert_eq!(answers(format!("read {past}\n").as_bytes()), "read 4\n");
+        let told = answers(format!("head hear 3 {past}\nbox hear 0 {past}\n").as_bytes());
+        let numbers: Vec<&str> = told.lines().step_by(2).collect();
+        assert_eq!(numbers, ["head 4", "box 4 drift 0"]);
+    }
+}
+
+#[test]
+fn the_pad_behind_the_sets_is_written_as_zeros() {
+    for (body, told) in [("02050102030480ffff", " 2 5 258 772 128 65535"), ("00", "")] {
+        let zeroed = report(body);
+        let padded = format!("{}{body:f<80}", &zeroed[..40]);
+        let read = answers(format!("read {padded}\n").as_bytes());
+        let told = format!(" report{told} frame {zeroed}\n");
+        assert!(read.ends_with(&told), "{read}");
+    }
+}
+
+#[test]
+fn a_clients_report_is_told_by_the_head() {
+    let before = "head new 3 020000000001\nhead state 020000000001 1500 idle 0 0\n\
+        head link 3 registered 021346578a9b 0 9 8\nhead link 2 waiting 020000000032 7 0 0\n\
+        box state 021346578a9b 1000 registered 0 40000000 7 3 0\n";
+    let sent = report("02050102030480ffff");
+    let told = told_after(before, "box report 2 5 258 772 128 65535\n");
+    let state = "  box 021346578a9b count 1000 registered 0 40000000 3125000 port 3 sync 0 \
+        light rest 0 grants 0\n";
+    assert_eq!(told, format!("box 0 drift 0 frame {sent}\n{state}"));
+    let links = |watchdog| {
+        format!(
+            "  head 020000000001 count 1500 window idle 0 0 links 3 idle 000000000000 0 0 0 \
+             waiting 020000000032 7 0 0 registered 021346578a9b 0 {watchdog} 8\n"
+        )
+    };
+    let waiting = sent.replace("021346578a9b", "020000000032");
+    for (line, answer, watchdog) in [
+        (
+            format!("3 {sent}"),
+            "0 notice report 3 500 2 5 258 772 128 65535",
+            62_500_000,
+        ),
+        (
+            format!("3 {}", report("")),
+            "0 notice report 3 500",
+            62_500_000,
+        ),
+        (format!("2 {waiting}"), "0", 9),
+        (format!("1 {sent}"), "6", 9),
+        (format!("0 {sent}"), "6", 9),
+        (format!("2 {sent}"), "8", 9),
+    ] {
+        let told = told_after(before, &format!("head hear {line}\n"));
+        assert_eq!(told, format!("head {answer}\n{}", links(watchdog)));
+    }
+}
+
+#[test]
+fn a_report_is_refused_by_13_then_7_then_4() {
+    let forty = format!("box report 40{}\n", " 0".repeat(40));
+    for (state, number) in [
+        ("registered 0 40000000 7 3 0", 4),
+        ("wait 0 0 0 3 0", 7),
+        ("registering 0 0 0 3 0", 7),
+        ("requesting 5 0 0 3 0", 7),
+        ("wait 5 0 0 3 0", 13),
+        ("registered 0 40000000 0 3 0", 13),
+    ] {
+        let before = format!("box state 021346578a9b 1000 {state}\n");
+        let told = told_after(&before, &forty);
+        assert!(
+            told.starts_with(&format!("box {number} drift 0\n")),
+            "{told}"
+        );
+    }
+}
+
 /// A REPORT to everyone with this source.
 fn report_from(source: &str) -> String {
     frame(&format!("0180c2000001{source}880800036c6d6e6f"))

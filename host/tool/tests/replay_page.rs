@@ -47,7 +47,8 @@ fn line(form: &str, other: Option<(&str, u128)>) -> String {
         ("ADDRESS", _) => "020000000001".to_owned(),
         ("FRAME", _) => "00".to_owned(),
         (word, Some((name, number))) if word == name => number.to_string(),
-        // One grant, one link: one pair is what then follows.
+        // One grant, one link: one pair is what then follows. One set with
+        // one bit: one length.
         (word, _) if word.starts_with(char::is_uppercase) => "1".to_owned(),
         (word, _) => word.to_owned(),
     };
@@ -65,12 +66,12 @@ fn call(line: &str) -> Option<Call> {
 #[test]
 fn every_line_of_the_page_is_taken_with_its_numbers_and_no_larger_ones() {
     let largest = largest();
-    assert_eq!(largest.len(), 22);
+    assert_eq!(largest.len(), 24);
     for form in forms() {
         assert!(call(&line(form, None)).is_some(), "{form}");
         for word in form
             .split(' ')
-            .filter(|word| !["GRANTS", "HELD"].contains(word))
+            .filter(|word| !["GRANTS", "HELD", "SETS", "BITMAP"].contains(word))
         {
             let Some(&high) = largest.get(word) else {
                 continue;
@@ -106,6 +107,7 @@ fn name(call: &Call) -> &'static str {
         Call::BoxNew(_) => "box new",
         Call::BoxRegister => "box register",
         Call::BoxDeregister => "box deregister",
+        Call::BoxReport { .. } => "box report",
         Call::BoxHear { .. } => "box hear",
         Call::BoxNext { .. } => "box next",
         Call::BoxTick(_) => "box tick",
@@ -117,7 +119,7 @@ fn name(call: &Call) -> &'static str {
     }
 }
 
-const KINDS: usize = 25;
+const KINDS: usize = 26;
 
 #[test]
 fn every_kind_of_line_is_on_the_page() {
@@ -130,6 +132,16 @@ fn every_kind_of_line_is_on_the_page() {
     assert_eq!(kinds.len(), KINDS, "{kinds:?}");
 }
 
+/// A script of `examples/replay`, and its answers.
+macro_rules! example {
+    ($name:literal) => {
+        (
+            include_str!(concat!("../../../examples/replay/", $name, ".replay")),
+            include_str!(concat!("../../../examples/replay/", $name, ".txt")),
+        )
+    };
+}
+
 /// What stands in the page's block of this kind.
 fn block(kind: &str) -> &'static str {
     let (_, behind) = PAGE.split_once(&format!("\n```{kind}\n")).unwrap();
@@ -139,9 +151,11 @@ fn block(kind: &str) -> &'static str {
 
 #[test]
 fn examples_print_what_was_worked_out() {
-    let first_night = include_str!("../../../examples/replay/first-night.replay");
-    let answers = include_str!("../../../examples/replay/first-night.txt");
-    for (script, expected) in [(first_night, answers), (block("replay"), block("answers"))] {
+    for (script, expected) in [
+        example!("first-night"),
+        example!("queue-lengths"),
+        (block("replay"), block("answers")),
+    ] {
         for (core, make) in CORES {
             let mut output = Vec::new();
             replay(&*make(), script.as_bytes(), &mut output).unwrap();

@@ -76,6 +76,10 @@ fn bad_usage_is_status_two_and_two_lines() {
             "--boxes needs a number from 1 to 64",
         ),
         (&["night", "--loss"], "--loss needs a number from 0 to 1000"),
+        (
+            &["night", "--busy=65"],
+            "--busy needs a number from 0 to 64",
+        ),
         (&["night", "--seed=x"], "--seed needs a number"),
         (&["night", "--every-tick=1"], "--every-tick takes no value"),
         (

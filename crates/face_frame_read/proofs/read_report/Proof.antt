@@ -1,15 +1,42 @@
 -- `face_frame_read::read_report` meets its promise.
 -- Assumes nothing.
+use Prim.Native.Nat.{_-_}
+use mathlib.Core.Path.{_≡_, ap, _∙_}
+use mathlib.Core.Bool.{true, and-false}
+use native.Mathlib.Omega.{arith}
 use borrow.Author.Needs.{needs}
-use borrow.Author.Tests.{ne-eqb}
-use mathlib.Core.Bool.{and-false}
+use borrow.Author.Tests.{le-leb, lt-leb}
+use denote.Ref.{now}
+use lib.Dec.{leb}
+use lib.ListN.{length, take, drop, length-drop}
+use lib.Seq.{take-all}
+use Rattle.octets.specs.Laws.{octets-drop}
+use Rattle.octets.specs.Octets.{Octets}
+use Rattle.frame_queues.specs.Laws.{forty-sets}
+use Rattle.frame_queues.specs.Queues.{usedOf, cutOf, fortyOf, setsOf}
 use Rattle.face_frame.specs.Message.{messageWords}
-use Rattle.face_frame_read.proofs.Words.{sourced-ranged}
+use Rattle.face_frame_read.specs.Steps.{sourced}
+use Rattle.face_frame_read.proofs.Words.{sourced-ranged, report-words}
 use Rattle.face_frame_read.proofs.read_report.Statement.{statement}
 use Rattle.face_frame_read.proofs.read_report.Tie as tie
 
-field-requires : tie.Need-field-requires
-field-requires c κs = search needs
+sub-body : tie.Need-sub-body
+sub-body c = search needs
+
+part-body-start : tie.Need-part-body-start
+part-body-start c = search needs
+
+part-body-end : tie.Need-part-body-end
+part-body-end c = search needs
+
+used-requires : tie.Need-used-requires
+used-requires c κs = search needs
+
+of-requires : tie.Need-of-requires
+of-requires c κs = search needs
+
+cut-requires : tie.Need-cut-requires
+cut-requires c κs = search needs
 
 take-requires : tie.Need-take-requires
 take-requires c κs = search needs
@@ -18,10 +45,20 @@ same-length : tie.Need-same-length
 same-length c = search needs
 
 returns : tie.Need-returns
-unfolding messageWords
 returns c =
-    let i = c .before .before .before .before in
-    rw (c .before .before .take .ensures, ← i .before .field .ensures .0, i .if1 .taken)
+    let k = c .before .before .before .before in
+    let i = k .before .before in
+    let u = i .before in
+    let w = u .before .before .before in
+    let l = now (w .before .args .s) in
+    let m = now (w .before .args .m) in
+    let all : take (length l - 20) (drop 20 l) ≡ drop 20 l = take-all (length l - 20) (drop 20 l) (simp length-drop (omega arith)) in
+    let octets : Octets l = λ j. w .shared-slice-known .given j .fits in
+    let back : fortyOf (setsOf (drop 20 l)) ≡ drop 20 l = forty-sets (drop 20 l) (octets-drop 20 l octets) (simp length-drop (omega arith)) in
+    let used : u .used .result ≡ usedOf (drop 20 l) = u .used .ensures ∙ ap usedOf all in
+    let cut : k .cut .result ≡ setsOf (cutOf (drop 20 l)) = k .cut .ensures ∙ rw (used, k .before .of .ensures, all, back) in
+    let room : leb (usedOf (drop 20 l)) 40 ≡ true = le-leb (usedOf (drop 20 l)) 40 (rw used at (i .if1 .taken)) in
+    rw (c .before .before .take .ensures) (ap (sourced l m) (report-words l m (k .cut .result) room cut))
 
 refuse-requires : tie.Need-refuse-requires
 refuse-requires c κs = search needs
@@ -33,13 +70,22 @@ returns-2 : tie.Need-returns-2
 unfolding messageWords
 returns-2 c =
     let i = c .before .before .before .before in
-    rw (c .before .before .refuse .ensures, sourced-ranged, ← i .before .field .ensures .0, ne-eqb _ _ (i .if1 .left), and-false)
+    let u = i .before in
+    let l = now (u .before .before .before .before .args .s) in
+    let all : take (length l - 20) (drop 20 l) ≡ drop 20 l = take-all (length l - 20) (drop 20 l) (simp length-drop (omega arith)) in
+    let used : u .used .result ≡ usedOf (drop 20 l) = u .used .ensures ∙ ap usedOf all in
+    rw (c .before .before .refuse .ensures, sourced-ranged, lt-leb (usedOf (drop 20 l)) 40 (rw used at (i .if1 .left)), and-false)
 
 pub read-report-spec : {M : Type 1} → statement M
 read-report-spec =
     tie.close
     (tie.spec
-    field-requires
+    sub-body
+    part-body-start
+    part-body-end
+    used-requires
+    of-requires
+    cut-requires
     take-requires
     same-length
     returns

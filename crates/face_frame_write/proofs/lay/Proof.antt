@@ -10,8 +10,7 @@ use denote.Ref.{now}
 use lib.ListN.{length, take, drop}
 use lib.Seq.{drop-drop}
 use Rattle.octets.specs.Octets.{bytes}
-use Rattle.octets.specs.Laws.{length-part, length-onto}
-use Rattle.frame_writer.specs.Steps.{over-is}
+use Rattle.octets.specs.Laws.{length-part, length-onto, over-is}
 use Rattle.face_frame_write.proofs.lay.Statement.{statement}
 use Rattle.face_frame_write.proofs.lay.Tie as tie
 

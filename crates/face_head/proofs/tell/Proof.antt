@@ -1,8 +1,8 @@
 -- `face_head::tell` meets its promise.
 -- Assumes nothing.
+use borrow.Author.Needs.{needs}
 use borrow.Author.Tests.{eq-eqb, ne-eqb}
 use Rattle.face_head.specs.Told.{toldWords, noticeWords}
-use borrow.Author.Needs.{needs}
 use Rattle.face_head.proofs.tell.Statement.{statement}
 use Rattle.face_head.proofs.tell.Tie as tie
 
@@ -22,8 +22,11 @@ returns : tie.Need-returns
 unfolding toldWords noticeWords
 returns c = rw (c .before .before .lay .ensures, ← c .before .before .before .before .before .before .kind-word .ensures, eq-eqb _ _ (c .before .before .before .before .before .if1 .taken))
 
-cast-t17 : tie.Need-cast-t17
-cast-t17 c = search needs
+sets-of-requires : tie.Need-sets-of-requires
+sets-of-requires c κs = search needs
+
+cast-t18 : tie.Need-cast-t18
+cast-t18 c = search needs
 
 slice-aggregate-lay-2 : tie.Need-slice-aggregate-lay-2
 slice-aggregate-lay-2 c = search needs
@@ -36,7 +39,10 @@ same-length-2 c = search needs
 
 returns-2 : tie.Need-returns-2
 unfolding toldWords noticeWords
-returns-2 c = rw (c .before .before .lay2 .ensures, ← c .before .before .before .before .before .before .before .kind-word .ensures, ne-eqb _ _ (c .before .before .before .before .before .before .if1 .left))
+returns-2 c =
+    let l = c .before .before in
+    let s = l .before .before .before .before in
+    rw (l .lay2 .ensures, s .sets-of .ensures, ← s .before .before .kind-word .ensures, ne-eqb _ _ (s .before .if1 .left))
 
 pub tell-spec : {M : Type 1} → statement M
 tell-spec =
@@ -47,7 +53,8 @@ tell-spec =
     lay-requires
     same-length
     returns
-    cast-t17
+    sets-of-requires
+    cast-t18
     slice-aggregate-lay-2
     lay-requires-2
     same-length-2

@@ -1,7 +1,7 @@
 -- `frame_reader::body_at` meets its promise.
 -- Assumes nothing.
-use borrow.Author.Tests.{eq-eqb, ne-eqb}
 use borrow.Author.Needs.{needs}
+use borrow.Author.Tests.{eq-eqb, ne-eqb}
 use Rattle.frame_reader.specs.Decode.{bodyAt}
 use Rattle.frame_reader.proofs.body_at.Statement.{statement}
 use Rattle.frame_reader.proofs.body_at.Tie as tie
@@ -13,9 +13,12 @@ returns : tie.Need-returns
 unfolding bodyAt
 returns c = rw (c .gate-at .ensures, eq-eqb _ _ (c .before .if1 .taken))
 
+report-at-requires : tie.Need-report-at-requires
+report-at-requires c κs = search needs
+
 returns-2 : tie.Need-returns-2
 unfolding bodyAt
-returns-2 c = rw (ne-eqb _ _ (c .before .if1 .left), eq-eqb _ _ (c .if2 .taken))
+returns-2 c = rw (c .report-at .ensures, ne-eqb _ _ (c .before .before .if1 .left), eq-eqb _ _ (c .before .if2 .taken))
 
 register-req-at-requires : tie.Need-register-req-at-requires
 register-req-at-requires c κs = search needs
@@ -64,6 +67,7 @@ body-at-spec =
     (tie.spec
     gate-at-requires
     returns
+    report-at-requires
     returns-2
     register-req-at-requires
     returns-3

@@ -1,8 +1,14 @@
 -- `frame_reader::body_in_range` meets its promise.
 -- Assumes nothing.
+use Prim.Native.Nat.{_-_}
 use mathlib.Core.Bool.{or-assoc, or-false}
-use borrow.Author.Tests.{eq-eqb, ne-eqb}
+use mathlib.Core.Path.{_≡_}
+use native.Mathlib.Omega.{arith}
 use borrow.Author.Needs.{needs}
+use borrow.Author.Tests.{eq-eqb, ne-eqb}
+use denote.Ref.{now}
+use lib.ListN.{length, take, drop, length-drop}
+use lib.Seq.{take-all}
 use Rattle.frame.specs.Reading.{bodyInRange}
 use Rattle.frame_reader.proofs.body_in_range.Statement.{statement}
 use Rattle.frame_reader.proofs.body_in_range.Tie as tie
@@ -17,15 +23,29 @@ returns : tie.Need-returns
 unfolding bodyInRange
 returns c = rw (c .gate-in-range .ensures, ← c .before .before .field .ensures .0, eq-eqb _ _ (c .before .if1 .taken))
 
+sub-used : tie.Need-sub-used
+sub-used c = search needs
+
+part-used-start : tie.Need-part-used-start
+part-used-start c = search needs
+
+part-used-end : tie.Need-part-used-end
+part-used-end c = search needs
+
+used-requires : tie.Need-used-requires
+used-requires c κs = search needs
+
 returns-2 : tie.Need-returns-2
 unfolding bodyInRange
 returns-2 c =
+    let l = now (c .before .before .before .before .before .before .args .s) in
+    let all : take (length l - 20) (drop 20 l) ≡ drop 20 l = take-all (length l - 20) (drop 20 l) (simp length-drop (omega arith)) in
     rw (
-      ← c .before .before .field .ensures .0,
-      ne-eqb _ _ (c .before .if1 .left),
-      eq-eqb _ _ (c .if2 .taken),
+      c .used .ensures,
+      all,
+      ne-eqb _ _ (c .before .before .before .if1 .left),
+      eq-eqb _ _ (c .before .before .if2 .taken),
     )
-    (simp or-false)
 
 returns-3 : tie.Need-returns-3
 unfolding bodyInRange
@@ -73,6 +93,10 @@ body-in-range-spec =
     field-requires
     gate-in-range-requires
     returns
+    sub-used
+    part-used-start
+    part-used-end
+    used-requires
     returns-2
     returns-3
     field-requires-2

@@ -8,9 +8,8 @@ use native.Mathlib.Nat.{add-zero}
 use lib.ListN.{length, take, drop}
 use lib.Seq.{drop-drop}
 use borrow.Author.Needs.{needs}
-use Rattle.frame_writer.specs.Steps.{over-is}
 use Rattle.octets.specs.Octets.{bytes}
-use Rattle.octets.specs.Laws.{length-part, length-onto}
+use Rattle.octets.specs.Laws.{length-part, length-onto, over-is}
 use Rattle.frame_writer.proofs.lay.Statement.{statement}
 use Rattle.frame_writer.proofs.lay.Tie as tie
 

@@ -16,26 +16,26 @@ enum-told-2 c = search needs
 accepted-requires-2 : tie.Need-accepted-requires-2
 accepted-requires-2 c κs = search needs
 
-enum-told-3 : tie.Need-enum-told-3
-enum-told-3 c = search needs
+enum-known-body : tie.Need-enum-known-body
+enum-known-body c = search needs
 
 on-registered-requires : tie.Need-on-registered-requires
 on-registered-requires c κs = search needs
 
-enum-known-body : tie.Need-enum-known-body
-enum-known-body c = search needs
+enum-known-body-2 : tie.Need-enum-known-body-2
+enum-known-body-2 c = search needs
 
 requested-requires : tie.Need-requested-requires
 requested-requires c κs = search needs
 
-enum-told-4 : tie.Need-enum-told-4
-enum-told-4 c = search needs
+enum-told-3 : tie.Need-enum-told-3
+enum-told-3 c = search needs
 
 accepted-requires-3 : tie.Need-accepted-requires-3
 accepted-requires-3 c κs = search needs
 
-enum-known-body-2 : tie.Need-enum-known-body-2
-enum-known-body-2 c = search needs
+enum-known-body-3 : tie.Need-enum-known-body-3
+enum-known-body-3 c = search needs
 
 confirmed-requires : tie.Need-confirmed-requires
 confirmed-requires c κs = search needs
@@ -47,16 +47,16 @@ returns-2 : tie.Need-returns-2
 returns-2 c = rw (c .accepted2 .ensures, c .before .enum-told2 .given .1)
 
 returns-3 : tie.Need-returns-3
-returns-3 c = rw (c .on-registered .ensures, c .before .enum-told3 .given .1)
+returns-3 c = rw (c .on-registered .ensures, c .before .before .body .given .1)
 
 returns-4 : tie.Need-returns-4
-returns-4 c = rw (c .requested .ensures, c .before .before .body .given .1)
+returns-4 c = rw (c .requested .ensures, c .before .before .body2 .given .1)
 
 returns-5 : tie.Need-returns-5
-returns-5 c = rw (c .accepted3 .ensures, c .before .enum-told4 .given .1)
+returns-5 c = rw (c .accepted3 .ensures, c .before .enum-told3 .given .1)
 
 returns-6 : tie.Need-returns-6
-returns-6 c = rw (c .confirmed .ensures, c .before .before .body2 .given .1)
+returns-6 c = rw (c .confirmed .ensures, c .before .before .body3 .given .1)
 
 pub heard-spec : {M : Type 1} → statement M
 heard-spec =
@@ -66,13 +66,13 @@ heard-spec =
     accepted-requires
     enum-told-2
     accepted-requires-2
-    enum-told-3
-    on-registered-requires
     enum-known-body
-    requested-requires
-    enum-told-4
-    accepted-requires-3
+    on-registered-requires
     enum-known-body-2
+    requested-requires
+    enum-told-3
+    accepted-requires-3
+    enum-known-body-3
     confirmed-requires
     returns
     returns-2

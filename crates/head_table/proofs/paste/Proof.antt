@@ -7,8 +7,7 @@ use lib.ListN.{length, take, drop}
 use lib.Seq.{drop-drop}
 use borrow.Author.Tests.{lt-ltb, le-ltb}
 use borrow.Author.Needs.{needs}
-use Rattle.octets.specs.Laws.{length-part}
-use Rattle.frame_writer.specs.Steps.{over-is}
+use Rattle.octets.specs.Laws.{length-part, over-is}
 use Rattle.head_table.specs.Output.{pasted}
 use Rattle.head_table.proofs.Copied.{copied}
 use Rattle.head_table.proofs.paste.Statement.{statement}

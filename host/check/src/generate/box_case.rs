@@ -1,6 +1,7 @@
 //! Calls on a box in a state handed in.
 
 use super::messages::{frame_for, For};
+use super::queue_sets;
 use super::states::{any_box, box_lines};
 use super::values::{address, ticks_ahead, HEAD};
 use crustnewt_tool::dice::Dice;
@@ -30,12 +31,13 @@ pub(crate) fn script(dice: &mut Dice) -> Vec<String> {
 
 fn call(dice: &mut Dice, floor_box: &FloorBox) -> String {
     let now = floor_box.count;
-    match dice.below(13) {
+    match dice.below(14) {
         0 => "box register".to_owned(),
         1 => "box deregister".to_owned(),
         2 | 3 => next(dice, floor_box.light.window()),
         4..=6 => format!("box tick {}", ticks(dice)),
         7 => advance(dice, floor_box),
+        8 => queue_sets::line(&queue_sets::asked(dice)),
         _ => {
             let random = dice.pick(&[0, 1, 100, 101, 250, u32::MAX, now.0]);
             let frame = frame_for(dice, For::Box, now, HEAD);

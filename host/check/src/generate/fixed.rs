@@ -2,6 +2,7 @@
 //! timer at its ends, every kind of address, every length of output.
 
 mod advances;
+mod reports;
 
 use super::messages::octets;
 use super::states::{box_lines, head_line, link_line};
@@ -10,7 +11,7 @@ use crustnewt_tool::replay::hex;
 use plain::frame::{AckFlag, RegisterFlag, RequestFlag};
 use plain::{
     Address, Body, BoxState, Count, FloorBox, Gate, Grant, GrantList, Granted, Head, Light, Link,
-    LinkState, Message, Window,
+    LinkState, Message, QueueSets, Window,
 };
 
 const NOW: Count = Count(0xFFFF_FFF0);
@@ -27,6 +28,8 @@ pub(crate) fn cases() -> Vec<(&'static str, Vec<String>)> {
         ("sources and destinations", addresses()),
         ("lent outputs", outputs()),
         ("lent tables", tables()),
+        ("queue sets heard", reports::heard()),
+        ("queue sets asked for", reports::asked()),
         ("advances of the box", advances::of_boxes()),
         ("advances of the head", advances::of_heads()),
         ("advances worked out", advances::worked()),
@@ -50,7 +53,8 @@ fn bodies() -> Vec<Body> {
         Body::Gate(Gate::empty()),
         Body::Gate(Gate::of(&[granted; 4]).unwrap_or_default()),
         Body::Discovery { granted, sync },
-        Body::Report,
+        Body::Report(QueueSets::NONE),
+        Body::Report(QueueSets::of(1, &[5, 1, 2, 3, 4]).expect("they fit")),
     ];
     for flag in [RequestFlag::Register, RequestFlag::Deregister] {
         bodies.push(Body::RegisterReq { flag, pending });
@@ -347,7 +351,7 @@ fn addresses() -> Vec<String> {
             script.push(format!("read {from}"));
             script.extend(heard_by_heads(&from));
         }
-        let report = digits(BOX, address, Body::Report);
+        let report = digits(BOX, address, Body::Report(QueueSets::NONE));
         script.push(format!("read {}", &report[..118]));
         for other in ["88090003", "88080007"] {
             script.push(format!("read {}", report.replace("88080003", other)));

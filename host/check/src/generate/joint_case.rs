@@ -6,12 +6,13 @@
 
 use super::box_case::{self, next, ticks};
 use super::head_case::{self, gate, open};
+use super::queue_sets;
 use super::states::{box_lines, head_line, link_line};
 use super::values::{count, near, other_source, running, BOX, HEAD};
 use crustnewt_core::PlainCore;
 use crustnewt_tool::dice::Dice;
 use crustnewt_tool::replay::{parse, Script, Stage};
-use plain::{Count, Head, Link, Window};
+use plain::{BoxState, Count, Head, Link, Window};
 use std::collections::VecDeque;
 
 /// A frame on its way, as digits.
@@ -77,6 +78,7 @@ impl Joint<'_> {
         let rash = self.dice.chance(100);
         let idle = rash || window == Window::Idle;
         let held = rash || self.stage.head.link(0).is_held();
+        let registered = self.stage.floor_box.state().state == BoxState::Registered;
         match self.dice.below(12) {
             0..=2 if idle => self.open_soon(now),
             3 if held => self.gate(now),
@@ -92,6 +94,10 @@ impl Joint<'_> {
             }
             8 if self.dice.chance(300) => self.hurry(),
             9 if self.dice.chance(500) => self.look_ahead(),
+            10 if rash || registered => {
+                let sets = queue_sets::asked(self.dice);
+                self.say(queue_sets::line(&sets));
+            }
             _ => {}
         }
         let ticks = ticks(self.dice);

@@ -1,9 +1,10 @@
 //! Messages of every kind, and frames whole and damaged.
 
+use super::queue_sets;
 use super::values::{address, count, near, other_source, quanta, sync, BOX, HEAD};
 use crustnewt_tool::dice::Dice;
 use plain::frame::{write, AckFlag, RegisterFlag, RequestFlag};
-use plain::{Address, Body, Count, Frame, Gate, Grant, Granted, LinkState, Message};
+use plain::{Address, Body, Count, Frame, Gate, Grant, Granted, LinkState, Message, QueueSet};
 
 /// The party that a message is meant for.
 #[derive(Clone, Copy, PartialEq, Eq)]
@@ -47,17 +48,18 @@ pub(crate) fn frame_of(
     let frame = octets(&message).to_vec();
     match dice.below(100) {
         0..=5 => damaged(dice, frame),
-        6..=9 => with_pad(dice, frame),
+        6..=19 => with_pad(dice, &message.body, frame),
         _ => frame,
     }
 }
 
 /// A frame of any kind, whole or damaged.
 pub(crate) fn any_frame(dice: &mut Dice) -> Vec<u8> {
-    let frame = octets(&any_message(dice)).to_vec();
+    let message = any_message(dice);
+    let frame = octets(&message).to_vec();
     match dice.below(3) {
         0 => frame,
-        1 => with_pad(dice, frame),
+        1 => with_pad(dice, &message.body, frame),
         _ => damaged(dice, frame),
     }
 }
@@ -100,7 +102,10 @@ pub(crate) fn fitting(dice: &mut Dice, link: Option<LinkState>) -> Body {
             port: dice.half() as u16,
             sync: sync(dice),
         },
-        Some(LinkState::Registered) => dice.pick(&[Body::Report, request(RequestFlag::Deregister)]),
+        Some(LinkState::Registered) => {
+            let report = Body::Report(queue_sets::fitting(dice));
+            dice.pick(&[report, request(RequestFlag::Deregister)])
+        }
     }
 }
 
@@ -121,7 +126,7 @@ fn any_body(dice: &mut Dice, now: Count) -> Body {
 
 fn body_for(dice: &mut Dice, party: For, now: Count) -> Body {
     match (party, dice.below(4)) {
-        (For::Head, 0) => Body::Report,
+        (For::Head, 0) => Body::Report(queue_sets::fitting(dice)),
         (For::Head, 1) => Body::RegisterAck {
             flag: dice.pick(&[AckFlag::Ack, AckFlag::Ack, AckFlag::Nack]),
             port: dice.half() as u16,
@@ -168,7 +173,7 @@ pub(crate) fn granted(dice: &mut Dice, now: Count) -> Granted {
 
 /// The frame with something wrong, or nothing that counts.
 fn damaged(dice: &mut Dice, mut frame: Vec<u8>) -> Vec<u8> {
-    match dice.below(8) {
+    match dice.below(9) {
         0 => frame.truncate(dice.below(60) as usize),
         1 => frame.push(dice.half() as u8),
         2 => frame = (0..60).map(|_| dice.half() as u8).collect(),
@@ -176,6 +181,7 @@ fn damaged(dice: &mut Dice, mut frame: Vec<u8>) -> Vec<u8> {
         4 => spoil(dice, &mut frame, 14, 16),
         5 => frame[20] = dice.half() as u8,
         6 => spoil(dice, &mut frame, 20, 28),
+        7 => report_anything(dice, &mut frame),
         _ => spoil(dice, &mut frame, 0, 60),
     }
     frame
@@ -187,9 +193,23 @@ fn spoil(dice: &mut Dice, frame: &mut [u8], low: u64, high: u64) {
     frame[at as usize] ^= 1 << dice.below(8);
 }
 
-/// The frame with its last octets, which are always pad, filled.
-fn with_pad(dice: &mut Dice, mut frame: Vec<u8>) -> Vec<u8> {
-    for octet in frame.iter_mut().skip(45) {
+/// Makes it a REPORT of any body.
+fn report_anything(dice: &mut Dice, frame: &mut [u8]) {
+    frame[14..16].copy_from_slice(&[0, 3]);
+    frame[20..].copy_from_slice(&queue_sets::body(dice));
+}
+
+/// The frame with its pad filled: what is behind the sets of a REPORT, and
+/// otherwise the last octets, which are always pad.
+fn with_pad(dice: &mut Dice, body: &Body, mut frame: Vec<u8>) -> Vec<u8> {
+    let pad = match body {
+        Body::Report(sets) => {
+            let sets: Vec<QueueSet> = sets.iter().collect();
+            21 + queue_sets::octets(&sets).len()
+        }
+        _ => 45,
+    };
+    for octet in frame.iter_mut().skip(pad) {
         *octet = dice.half() as u8;
     }
     frame

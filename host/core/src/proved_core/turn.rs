@@ -2,7 +2,7 @@
 
 use crustnewt::{
     AckFlag, Body, BoxNotice, BoxParts, BoxState, Grant, Granted, HeadNotice, HeadNoticeKind,
-    HeadParts, Light, Link, LinkState, Message, RegisterFlag, RequestFlag, UpTo, Window,
+    HeadParts, Light, Link, LinkState, Message, QueueSets, RegisterFlag, RequestFlag, UpTo, Window,
 };
 use plain::{Address, Count, Gate, GrantList};
 
@@ -70,7 +70,7 @@ same!(bool, u8, u16, u32, u64);
 structs!(Grant, plain::Grant, start, length);
 structs!(Granted, plain::Granted, grant, force);
 structs!(HeadParts, plain::Head, address, count, window);
-structs!(HeadNotice, plain::HeadNotice, kind, link, trip);
+structs!(HeadNotice, plain::HeadNotice, kind, link, trip, sets);
 structs!(Link, plain::Link, address, state, wait, watchdog, periodic);
 structs!(
     BoxParts,
@@ -150,7 +150,7 @@ enums!(
     plain::Body,
     Gate(grants),
     Discovery { granted, sync },
-    Report,
+    Report(sets),
     RegisterReq { flag, pending },
     Register {
         flag,
@@ -225,6 +225,18 @@ impl<const MOST: usize> Turn<UpTo<Granted, MOST>> for Gate {
     fn turn(self) -> UpTo<Granted, MOST> {
         let grants: Vec<Granted> = self.iter().map(Turn::turn).collect();
         UpTo::of(&grants).expect(ROOM)
+    }
+}
+
+impl Turn<plain::QueueSets> for QueueSets {
+    fn turn(self) -> plain::QueueSets {
+        plain::QueueSets::of_octets(self.octets())
+    }
+}
+
+impl Turn<QueueSets> for plain::QueueSets {
+    fn turn(self) -> QueueSets {
+        QueueSets::of_octets(self.octets())
     }
 }
 

@@ -1,6 +1,7 @@
 //! What a call of the head tells.
 
 use crate::message::Frame;
+use crate::queue_sets::{QueueSets, SETS_WORDS};
 use crate::sys::HEAD_REPLY_WORDS;
 use crate::word::{fit, sure};
 use core::fmt;
@@ -21,6 +22,8 @@ pub struct HeadNotice {
     pub link: usize,
     /// Round trip of the message, in quanta.
     pub trip: u32,
+    /// The queue sets of a report, none of others.
+    pub sets: QueueSets,
 }
 
 /// Kinds of the head's notices.
@@ -33,7 +36,7 @@ pub enum HeadNoticeKind {
     Registered,
     /// A box said that it leaves, or won't join, and was dropped.
     Dropped,
-    /// A report was heard.
+    /// A report was heard, with its queue sets.
     Report,
 }
 
@@ -56,10 +59,10 @@ impl<'a> HeadReply<'a> {
     /// What the head has for its client.
     #[inline]
     pub fn notice(&self) -> Option<HeadNotice> {
-        let [_, number, kind, link, trip] = *self.words;
+        let [_, number, kind, link, trip, sets @ ..] = *self.words;
         sure(match number {
             0 => Some(None),
-            1 => HeadNotice::of_words(kind, link, trip).map(Some),
+            1 => HeadNotice::of_words(kind, link, trip, sets).map(Some),
             _ => None,
         })
     }
@@ -84,7 +87,7 @@ impl fmt::Debug for HeadReply<'_> {
 }
 
 impl HeadNotice {
-    fn of_words(kind: u64, link: u64, trip: u64) -> Option<HeadNotice> {
+    fn of_words(kind: u64, link: u64, trip: u64, sets: [u64; SETS_WORDS]) -> Option<HeadNotice> {
         Some(HeadNotice {
             kind: match kind {
                 1 => HeadNoticeKind::Request,
@@ -95,6 +98,7 @@ impl HeadNotice {
             },
             link: fit(link)?,
             trip: fit(trip)?,
+            sets: QueueSets::of_words(sets),
         })
     }
 }

@@ -1,5 +1,6 @@
 //! What the words of a message say, read here by the header alone.
 
+use super::reports::{sets_of, SETS_WORDS};
 use super::states::{grant, half};
 use crustnewt::sys::MESSAGE_WORDS;
 use plain::frame::{AckFlag, RegisterFlag, RequestFlag};
@@ -21,7 +22,7 @@ pub fn message_of(words: &[u64]) -> Option<Message> {
     let held = match words[3] {
         0 => BODY,
         1 | 5 => 3,
-        2 => 0,
+        2 => SETS_WORDS,
         3 => 2,
         4 => 4,
         _ => return None,
@@ -47,7 +48,7 @@ fn body(kind: u64, said: [u64; BODY]) -> Option<Body> {
             },
             sync: half(said[0])?,
         },
-        2 => Body::Report,
+        2 => Body::Report(sets_of(said.first_chunk()?)),
         3 => Body::RegisterReq {
             flag: flag(
                 said[0],

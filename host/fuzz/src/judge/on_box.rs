@@ -2,6 +2,7 @@
 
 use super::advances::{self, require_answer, require_counted, require_made};
 use super::frames::require_sources;
+use super::reports;
 use super::states::{is_sound_box, told, Told};
 use super::{
     both, require, require_judged, require_number, word, Left, DONE, RANGE, SHORT, UNSOUND, WINDOW,
@@ -76,6 +77,10 @@ pub fn judge_box(face: &dyn Face, call: &BoxCall, lent: &BoxLent) -> Result<Left
             require_counted(&lent.block, &left.block, left.made)?;
             require_stopped(asked, &left)?;
         }
+        if let BoxCall::Report(asked, sets, lent) = call {
+            reports::require_handed_out(&left, *asked, &sets[..*lent])?;
+            require(left.reply[NUMBER] == 0, "a report tells something")?;
+        }
     }
     if left.number != SHORT {
         require_state(left.number, call, &lent.block)?;
@@ -101,6 +106,9 @@ fn require_stopped(asked: u64, left: &Left) -> Result<(), String> {
 /// address.
 fn require_state(number: u8, call: &BoxCall, block: &[u64]) -> Result<(), String> {
     let heard = match call {
+        BoxCall::Report(asked, sets, lent) => {
+            return reports::require_answer(number, *asked, &sets[..*lent], block);
+        }
         BoxCall::Advance(asked) => {
             let ahead = (!is_sound_box(block)).then_some(UNSOUND);
             return require_answer(number, *asked, ahead, Some(WINDOW));
@@ -124,7 +132,7 @@ fn judge_with(face: &dyn Face, call: &BoxCall, lent: &BoxLent, filler: u8) -> Re
         made: Guarded::new(&[], lent.made, word(filler)),
     };
     let number = face.on_box(
-        call,
+        &call.with_behind(filler),
         BoxMemory {
             block: memory.block.lend(),
             frames: memory.frames.lend(),

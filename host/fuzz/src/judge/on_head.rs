@@ -2,6 +2,7 @@
 
 use super::advances::{self, require_answer, require_counted, require_made};
 use super::frames::require_sources;
+use super::reports::require_told;
 use super::states::{head_of, is_sound_head};
 use super::{
     both, require, require_judged, require_number, word, Left, DONE, OUTPUT, RANGE, SHORT, UNSOUND,
@@ -71,7 +72,7 @@ const FRAMES: usize = 0;
 /// How many notices.
 const NUMBER: usize = 1;
 const NOTICE: usize = 2;
-const NOTICE_WORDS: usize = 3;
+const NOTICE_WORDS: usize = HEAD_REPLY_WORDS - NOTICE;
 const LAST_KIND: u64 = 4;
 
 /// Makes a call of a head and holds it against the header.
@@ -195,15 +196,23 @@ impl Memory {
     }
 
     fn require_told(&self, call: &HeadCall, links: usize) -> Result<(), String> {
-        let [frames, number, kind, link, trip] = self.reply.now()[..HEAD_REPLY_WORDS] else {
-            return Err("no reply".to_owned());
-        };
+        let reply: [u64; HEAD_REPLY_WORDS] = self.reply.now()[..HEAD_REPLY_WORDS]
+            .try_into()
+            .map_err(|_| "no reply")?;
+        let [frames, number, kind, link, trip, sets @ ..] = reply;
         let ticks = *call == HeadCall::Tick || call.ticks().is_some();
         let most = if ticks { links } else { 1 };
         require(frames <= most as u64, "more frames than the call can have")?;
-        let heard = u64::from(matches!(call, HeadCall::Hear(..)));
-        require(number <= heard, "more notices than the call can have")?;
+        let heard = match call {
+            HeadCall::Hear(_, octets) => Some(octets).filter(|_| number == 1),
+            _ => None,
+        };
+        let told = u64::from(heard.is_some());
+        require(number == told, "more notices than the call can have")?;
         self.require_behind(links, frames as usize, number as usize)?;
+        if let Some(octets) = heard {
+            require_told(kind, &sets, octets)?;
+        }
         let known =
             (1..=LAST_KIND).contains(&kind) && link <= links as u64 && trip <= u64::from(u32::MAX);
         require(number == 0 || known, "a notice that is none")

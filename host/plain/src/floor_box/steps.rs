@@ -6,6 +6,7 @@ use crate::frame::{self, AckFlag, Body, Gate, Message, RegisterFlag, RequestFlag
 use crate::grants::{Grant, GrantList};
 use crate::light::Light;
 use crate::numbers::{needed_length, run_out, CONTROL_FRAME, PENDING, PERIOD, WAIT, WATCHDOG};
+use crate::queue_sets::QueueSets;
 
 impl FloorBox {
     /// The step of an accepted message; where there is none nothing happens.
@@ -23,7 +24,7 @@ impl FloorBox {
             Body::Register {
                 port, flag, sync, ..
             } => self.act_on_register(flag, port, sync, answer),
-            Body::Report | Body::RegisterReq { .. } | Body::RegisterAck { .. } => {}
+            Body::Report(_) | Body::RegisterReq { .. } | Body::RegisterAck { .. } => {}
         }
     }
 
@@ -88,11 +89,10 @@ impl FloorBox {
         answer.notices.push(BoxNotice::Registered);
         let flag = AckFlag::Ack;
         self.send(Body::RegisterAck { flag, port, sync }, answer);
-        self.send(Body::Report, answer);
+        self.send_report(QueueSets::NONE, answer);
         self.state = BoxState::Registered;
         self.wait = 0;
         self.watchdog = WATCHDOG;
-        self.report = PERIOD;
     }
 
     /// LOCAL DEREGISTER.
@@ -149,8 +149,7 @@ impl FloorBox {
             self.end_registration(&mut answer);
         }
         if ended.report && self.state == BoxState::Registered {
-            self.send(Body::Report, &mut answer);
-            self.report = PERIOD;
+            self.send_report(QueueSets::NONE, &mut answer);
         }
         if ended.light {
             self.end_light(&mut answer);
@@ -224,6 +223,12 @@ impl FloorBox {
     /// Whether activation finds something to do.
     pub(super) fn has_to_choose(&self) -> bool {
         self.state == BoxState::Registered && self.light == Light::Rest && !self.grants.is_empty()
+    }
+
+    /// Hands out a REPORT and starts its timer again.
+    pub(super) fn send_report(&mut self, sets: QueueSets, answer: &mut BoxAnswer) {
+        self.send(Body::Report(sets), answer);
+        self.report = PERIOD;
     }
 
     /// Hands out a frame (R99).

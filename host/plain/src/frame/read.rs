@@ -46,8 +46,8 @@ fn read_gate(frame: &Frame) -> Result<Body, Refusal> {
 }
 
 fn read_report(frame: &Frame) -> Result<Body, Refusal> {
-    require(frame[BODY_AT] == 0, Refusal::OutOfRange)?;
-    Ok(Body::Report)
+    let sets = QueueSets::leading(frame[BODY_AT], &frame[BODY_AT + 1..]);
+    Ok(Body::Report(sets.ok_or(Refusal::OutOfRange)?))
 }
 
 fn read_register_req(frame: &Frame) -> Result<Body, Refusal> {

@@ -24,7 +24,7 @@ pub(crate) fn octets(message: &Message) -> Frame {
 fn opcode(body: &Body) -> u16 {
     match body {
         Body::Gate(_) | Body::Discovery { .. } => GATE,
-        Body::Report => REPORT,
+        Body::Report(_) => REPORT,
         Body::RegisterReq { .. } => REGISTER_REQ,
         Body::Register { .. } => REGISTER,
         Body::RegisterAck { .. } => REGISTER_ACK,
@@ -39,8 +39,7 @@ fn put_body(frame: &mut Frame, body: &Body) {
             put_granted(frame, 0, granted);
             put_u16(frame, BODY_AT + 7, sync);
         }
-        // The number of queue sets is 0, as the pad is.
-        Body::Report => {}
+        Body::Report(sets) => frame[BODY_AT..].copy_from_slice(&sets.octets()),
         Body::RegisterReq { flag, pending } => {
             frame[BODY_AT] = flag as u8;
             frame[BODY_AT + 1] = pending;

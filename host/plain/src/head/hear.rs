@@ -5,6 +5,7 @@ use crate::address::Address;
 use crate::frame::{AckFlag, Body, Message, RequestFlag};
 use crate::link::{Link, LinkState};
 use crate::numbers::WATCHDOG;
+use crate::queue_sets::QueueSets;
 use crate::refusal::{require, Refusal};
 
 impl Head {
@@ -51,8 +52,15 @@ impl Head {
     }
 
     fn notice(&self, kind: HeadNoticeKind, link: u64, message: &Message) -> HeadNotice {
-        let trip = self.count.round_trip(message.stamp);
-        HeadNotice { kind, link, trip }
+        HeadNotice {
+            kind,
+            link,
+            trip: self.count.round_trip(message.stamp),
+            sets: match message.body {
+                Body::Report(sets) => sets,
+                _ => QueueSets::NONE,
+            },
+        }
     }
 }
 
@@ -75,7 +83,7 @@ impl Post<'_> {
                 self.drop_link(place, link);
                 Some(HeadNoticeKind::Dropped)
             }
-            (LinkState::Registered, Body::Report) => {
+            (LinkState::Registered, Body::Report(_)) => {
                 link.watchdog = WATCHDOG;
                 Some(HeadNoticeKind::Report)
             }
@@ -87,7 +95,7 @@ impl Post<'_> {
 /// Whether the message goes from box to head.
 fn goes_up(body: &Body) -> bool {
     match body {
-        Body::Report | Body::RegisterReq { .. } | Body::RegisterAck { .. } => true,
+        Body::Report(_) | Body::RegisterReq { .. } | Body::RegisterAck { .. } => true,
         Body::Gate(_) | Body::Discovery { .. } | Body::Register { .. } => false,
     }
 }

@@ -1,8 +1,9 @@
 //! A floor: its box, its client, and the frames that wait for a window.
 
 use super::fibre::{Fibre, Sent};
+use super::queues::Queues;
 use super::record::Record;
-use crustnewt_core::{BoxCore, Core};
+use crustnewt_core::{BoxCore, BoxReply, Core};
 use plain::frame::{RequestFlag, FRAME_OCTETS};
 use plain::numbers::{CONTROL_FRAME, WAIT};
 use plain::{Address, Body, BoxState, Frame, Next};
@@ -25,10 +26,22 @@ pub(super) struct Floor {
     busy_until: u64,
     /// Longest time from a frame's hand-out to its sending.
     pub(super) longest_wait: u64,
+    /// Data frames. They fill whether or not the box is registered.
+    pub(super) queues: Queues,
+    window: Option<Window>,
+}
+
+/// A window that is open.
+#[derive(Clone, Copy)]
+struct Window {
+    /// The tick at which it opened.
+    since: u64,
+    /// Quanta that control frames took of it.
+    taken: u64,
 }
 
 impl Floor {
-    pub(super) fn new(core: &dyn Core, number: u32) -> Floor {
+    pub(super) fn new(core: &dyn Core, number: u32, queues: Queues) -> Floor {
         let address = Address(0x0200_0000_0000 + u64::from(number));
         let mut floor_box = core.floor_box();
         floor_box.fresh(address);
@@ -41,6 +54,8 @@ impl Floor {
             waiting: VecDeque::new(),
             busy_until: 0,
             longest_wait: 0,
+            queues,
+            window: None,
         }
     }
 
@@ -48,10 +63,32 @@ impl Floor {
         self.waiting.push_back((now, frame));
     }
 
-    /// Throws away what waits: a box that has left gets no window for it, and
-    /// the next discovery window has room for its request alone.
+    /// Throws away the control frames that wait: a box that has left gets no
+    /// window for them, and the next discovery window has room for its request
+    /// alone. A window that was open is over (R96).
     pub(super) fn throw_away(&mut self) {
         self.waiting.clear();
+        self.window = None;
+    }
+
+    /// Its client tells how long its queues are.
+    pub(super) fn report(&mut self, now: u64) -> BoxReply {
+        self.queues.fill(now);
+        self.floor_box.report(1, &self.queues.set())
+    }
+
+    pub(super) fn open_window(&mut self, now: u64) {
+        self.queues.fill(now);
+        let (since, taken) = (now, 0);
+        self.window = Some(Window { since, taken });
+    }
+
+    /// Data that waited has gone in what control frames left of the window: they
+    /// go first (R140, R141).
+    pub(super) fn close_window(&mut self, now: u64) {
+        if let Some(Window { since, taken }) = self.window.take() {
+            self.queues.drain(now - since - taken);
+        }
     }
 
     /// The tick after now at which a waiting frame may be sent next, if no
@@ -80,6 +117,9 @@ impl Floor {
             }
             self.longest_wait = self.longest_wait.max(now - since);
             self.busy_until = now + u64::from(CONTROL_FRAME);
+            if let Some(window) = &mut self.window {
+                window.taken += u64::from(CONTROL_FRAME);
+            }
             let sent = Sent {
                 arrives: now,
                 floor: index,

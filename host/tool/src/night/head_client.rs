@@ -16,6 +16,11 @@ const SYNC: u32 = 100;
 const DISCOVERY: u32 = 16_384;
 /// Control frames that a normal grant has room for.
 const FRAMES_PER_GRANT: u32 = 4;
+/// Quanta of data that it has room for besides.
+pub(super) const DATA_PER_GRANT: u32 = 1024;
+/// Ticks until a link is asked for its queues again: 64 ms. A box that has
+/// nobody to ask it tells every 50 ms that it is there, and no more.
+const BETWEEN_REPORTS: u64 = 4 * ROUND;
 
 /// When the client does what.
 pub(super) struct HeadClient {
@@ -24,6 +29,8 @@ pub(super) struct HeadClient {
     next_window: u64,
     next_gate: u64,
     turn: usize,
+    /// When each link is to be asked for its queues.
+    next_report: Vec<u64>,
 }
 
 impl HeadClient {
@@ -34,6 +41,7 @@ impl HeadClient {
             next_window: 0,
             next_gate: ROUND,
             turn: 0,
+            next_report: vec![0; boxes],
         }
     }
 
@@ -72,7 +80,35 @@ impl HeadClient {
             .into_iter()
             .find(|&place| head.link(place).is_held())?;
         self.turn = place + 1;
-        Some(gate(head, place))
+        Some(self.gate(now, head, place))
+    }
+
+    /// Gates a newcomer at once, so that it can acknowledge, and tell of its
+    /// queues.
+    pub(super) fn welcome(&mut self, now: u64, head: &mut dyn HeadCore, place: usize) -> HeadReply {
+        self.next_report[place] = now;
+        self.gate(now, head, place)
+    }
+
+    /// Gates the link at `place` with one grant. Its force bit asks for a REPORT
+    /// when it is time for one.
+    fn gate(&mut self, now: u64, head: &mut dyn HeadCore, place: usize) -> HeadReply {
+        let force = now >= self.next_report[place];
+        if force {
+            self.next_report[place] = now + BETWEEN_REPORTS;
+        }
+        let control_frames = (FRAMES_PER_GRANT - 1) * CONTROL_FRAME;
+        let mut grants = [Grant::default(); Gate::MOST];
+        grants[0] = Grant {
+            start: ahead(head),
+            length: needed_length(SYNC) + control_frames + DATA_PER_GRANT,
+        };
+        head.gate(&GateRequest {
+            link: place as u64 + 1,
+            force: force.into(),
+            asked: 1,
+            grants,
+        })
     }
 }
 
@@ -82,21 +118,6 @@ pub(super) fn admit(head: &mut dyn HeadCore, address: Address, pending: u8) -> H
         address,
         pending,
         sync: SYNC,
-    })
-}
-
-/// Gates the link at `place` with one grant.
-pub(super) fn gate(head: &mut dyn HeadCore, place: usize) -> HeadReply {
-    let mut grants = [Grant::default(); Gate::MOST];
-    grants[0] = Grant {
-        start: ahead(head),
-        length: needed_length(SYNC) + (FRAMES_PER_GRANT - 1) * CONTROL_FRAME,
-    };
-    head.gate(&GateRequest {
-        link: place as u64 + 1,
-        force: 0,
-        asked: 1,
-        grants,
     })
 }
 

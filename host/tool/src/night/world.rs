@@ -3,9 +3,11 @@
 mod answers;
 mod closing;
 
+use super::desk::Desk;
 use super::fibre::Fibre;
 use super::floor::Floor;
 use super::head_client::{link_of, link_state, HeadClient};
+use super::queues::Queues;
 use super::record::Pair;
 use super::scenario::Event;
 use super::timeline::Timeline;
@@ -36,6 +38,7 @@ pub(super) struct World<'a, W> {
     now: u64,
     head: Box<dyn HeadCore>,
     client: HeadClient,
+    desk: Desk,
     floors: Vec<Floor>,
     fibre: Fibre,
     events: &'static [(u64, Event)],
@@ -44,6 +47,8 @@ pub(super) struct World<'a, W> {
     /// Whether something other than counts and timers has changed.
     stirred: bool,
     unsound: u64,
+    /// REPORTs that a client was refused.
+    refused: u64,
     /// Advances that made another number of ticks than they had to.
     astray: u64,
 }
@@ -58,8 +63,6 @@ impl<'a, W: Write> World<'a, W> {
         head.lend_links(options.boxes);
         head.lend_output(vec![0; FRAME_OCTETS * options.boxes]);
         head.fresh(HEAD);
-        let boxes = options.boxes as u32;
-        let lowest = boxes.max(REMEMBERED) - boxes + 1;
         let mut dice = Dice::new(options.seed);
         let random = Dice::new(dice.word());
         World {
@@ -68,13 +71,15 @@ impl<'a, W: Write> World<'a, W> {
             now: 0,
             head,
             client: HeadClient::new(options.boxes, options.delay),
-            floors: (0..boxes).map(|n| Floor::new(core, lowest + n)).collect(),
+            desk: Desk::new(options.boxes),
+            floors: floors(core, options),
             fibre: Fibre::new(options.delay, options.loss, dice),
             events: options.scenario.events(),
             random,
             timeline,
             stirred: true,
             unsound: 0,
+            refused: 0,
             astray: 0,
         }
     }
@@ -302,7 +307,7 @@ impl<'a, W: Write> World<'a, W> {
             Body::RegisterReq { .. } => "its farewell",
             Body::RegisterAck { .. } => "its REGISTER_ACK",
             // Lost GATEs and REPORTs are followed by others.
-            Body::Gate(_) | Body::Discovery { .. } | Body::Report => return Ok(()),
+            Body::Gate(_) | Body::Discovery { .. } | Body::Report(_) => return Ok(()),
         };
         self.tell(index, format_args!("{name} is lost on the fibre"))
     }
@@ -315,6 +320,25 @@ impl<'a, W: Write> World<'a, W> {
     fn tell_head(&mut self, what: impl std::fmt::Display) -> io::Result<()> {
         self.timeline.tell(self.now, None, what)
     }
+}
+
+/// The floors, of which the last is the remembered one or above it. Queues have
+/// dice of their own, so that what is lost doesn't rest on them.
+fn floors(core: &dyn Core, options: &Options) -> Vec<Floor> {
+    let boxes = options.boxes as u32;
+    let lowest = boxes.max(REMEMBERED) - boxes + 1;
+    let floors = lowest..lowest + boxes;
+    // The remembered floor has enough to tell, where there is another.
+    let others: Vec<u32> = { floors.clone() }
+        .filter(|&number| number != REMEMBERED || boxes == 1)
+        .collect();
+    let fallen = Dice::new(!options.seed).pick(&others);
+    let busy = options.busy.unwrap_or(fallen);
+    let floor = |number: u32| {
+        let dice = Dice::new(options.seed ^ u64::from(number) << 32);
+        Floor::new(core, number, Queues::new(dice, number == busy))
+    };
+    floors.map(floor).collect()
 }
 
 fn is_farewell(body: &Body) -> bool {

@@ -44,6 +44,7 @@ pub enum Call {
     BoxNew(Address),
     BoxRegister,
     BoxDeregister,
+    BoxReport { number: u8, sets: Vec<u8> },
     BoxHear { random: u32, frame: Vec<u8> },
     BoxNext { control: usize, data: usize },
     BoxTick(u64),
@@ -125,6 +126,7 @@ fn box_call(words: &mut Words<'_>) -> Option<Call> {
         b"new" => Call::BoxNew(words.address()?),
         b"register" => Call::BoxRegister,
         b"deregister" => Call::BoxDeregister,
+        b"report" => report(words)?,
         b"hear" => Call::BoxHear {
             random: words.number()?,
             frame: words.frame()?,
@@ -140,6 +142,21 @@ fn box_call(words: &mut Words<'_>) -> Option<Call> {
         b"light" => Call::BoxLight(light(words)?),
         _ => return None,
     })
+}
+
+/// As many sets as are asked for, and of each as many lengths as its bitmap
+/// has bits set: octets as they stand in a frame.
+fn report(words: &mut Words<'_>) -> Option<Call> {
+    let number = words.number()?;
+    let mut sets = Vec::new();
+    for _ in 0..number {
+        let bitmap: u8 = words.number()?;
+        sets.push(bitmap);
+        for _ in 0..bitmap.count_ones() {
+            sets.extend(words.number::<u16>()?.to_be_bytes());
+        }
+    }
+    Some(Call::BoxReport { number, sets })
 }
 
 /// As many pairs as are asked for, but four at most.
@@ -403,6 +420,26 @@ mod tests {
         assert!(known("head gate 1 0 9 1 2 3 4 5 6 7 8"));
         assert!(!known("head gate 1 0 5 1 2 3 4 5 6 7 8 9 10"));
         assert!(!known("head gate 1 256 0"));
+    }
+
+    #[test]
+    fn a_report_has_a_length_for_each_bit_of_its_bitmaps() {
+        assert!(known("box report 0") && known("box report 1 0"));
+        assert!(!known("box report") && !known("box report 0 0") && !known("box report 1"));
+        assert!(known("box report 2 5 258 772 128 65535"));
+        assert!(!known("box report 2 5 258 772 128"));
+        assert!(!known("box report 2 5 258 772 128 65535 0"));
+        assert!(!known("box report 1 1 65536") && !known("box report 1 256"));
+        assert!(known(&format!("box report 255{}", " 0".repeat(255))));
+        assert!(!known(&format!("box report 256{}", " 0".repeat(256))));
+    }
+
+    #[test]
+    fn the_sets_of_a_report_are_as_in_a_frame() {
+        let sets = vec![5, 1, 2, 3, 4, 128, 255, 255];
+        let call = Call::BoxReport { number: 2, sets };
+        let line = b"box report 2 5 258 772 128 65535";
+        assert_eq!(parse(line), Script::Call(call));
     }
 
     #[test]

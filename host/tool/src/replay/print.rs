@@ -3,7 +3,8 @@
 use crustnewt_core::{BoxReply, HeadCore, HeadReply};
 use plain::frame::FRAME_OCTETS;
 use plain::{
-    Body, BoxNotice, BoxState, FloorBox, Grant, HeadNoticeKind, LinkState, Message, Window,
+    Body, BoxNotice, BoxState, FloorBox, Grant, HeadNoticeKind, LinkState, Message, QueueSets,
+    Window,
 };
 use std::fmt::{self, Display};
 use std::io::{self, Write};
@@ -46,7 +47,10 @@ fn body(out: &mut impl Write, body: &Body) -> io::Result<()> {
             let force = u8::from(granted.force);
             write!(out, "discovery {} {force} {sync}", pair(granted.grant))
         }
-        Body::Report => write!(out, "report"),
+        Body::Report(sets) => {
+            write!(out, "report")?;
+            queue_sets(out, &sets)
+        }
         Body::RegisterReq { flag, pending } => {
             write!(out, "register_req {} {pending}", flag as u8)
         }
@@ -76,6 +80,21 @@ pub(super) fn head_reply(out: &mut impl Write, reply: &HeadReply, output: &[u8])
             HeadNoticeKind::Report => "report",
         };
         write!(out, " notice {kind} {} {}", notice.link, notice.trip)?;
+        queue_sets(out, &notice.sets)?;
+    }
+    Ok(())
+}
+
+/// How many sets there are and each of them; nothing where there is none.
+fn queue_sets(out: &mut impl Write, sets: &QueueSets) -> io::Result<()> {
+    if sets.number() > 0 {
+        write!(out, " {}", sets.number())?;
+    }
+    for set in sets.iter() {
+        write!(out, " {}", set.bitmap)?;
+        for (_, length) in set.queues() {
+            write!(out, " {length}")?;
+        }
     }
     Ok(())
 }

@@ -97,6 +97,7 @@ impl Stage<'_> {
             Call::BoxNew(address) => floor_box.fresh(*address),
             Call::BoxRegister => floor_box.register(),
             Call::BoxDeregister => floor_box.deregister(),
+            Call::BoxReport { number, sets } => floor_box.report(*number, sets),
             Call::BoxHear { random, frame } => floor_box.hear(frame, *random),
             _ => return None,
         })

@@ -1,10 +1,12 @@
 //! What the clients do when head and boxes answer.
 
 use super::{Cause, World};
-use crate::night::head_client::{admit, gate, link_of};
+use crate::night::desk::News;
+use crate::night::floor::Floor;
+use crate::night::head_client::{admit, link_of};
 use crate::night::timeline::ticks;
 use crustnewt_core::BoxReply;
-use plain::{Body, BoxNotice, HeadNotice, HeadNoticeKind, Message};
+use plain::{Body, BoxNotice, Granted, HeadNotice, HeadNoticeKind, Message};
 use std::io::{self, Write};
 
 impl<W: Write> World<'_, W> {
@@ -25,11 +27,33 @@ impl<W: Write> World<'_, W> {
                     format!("is registered at both ends: link {link}, {trip} from stamp to head");
                 self.tell(index, told)
             }
+            (HeadNoticeKind::Report, _) => self.hear_report(notice),
             _ => Ok(()),
         }
     }
 
-    /// Admits a newcomer and gates it at once, so that it can acknowledge.
+    /// The desk learns of a floor's queues. Whose they are the link says.
+    fn hear_report(&mut self, notice: &HeadNotice) -> io::Result<()> {
+        let address = self.head.link(notice.link as usize - 1).address;
+        let floor = |floor: &Floor| floor.address == address;
+        let Some(index) = self.floors.iter().position(floor) else {
+            return Ok(());
+        };
+        match self.desk.hear(self.now, index, &notice.sets) {
+            Some(News::WaitsLongest(floor, told)) => {
+                let last = if told.is_of(self.now) {
+                    ""
+                } else {
+                    ", as last told"
+                };
+                self.tell(floor, format_args!("waits longest: {}{last}", told.queue()))
+            }
+            Some(News::CaughtUp(floor)) => self.tell(floor, "has caught up, and no floor waits"),
+            None => Ok(()),
+        }
+    }
+
+    /// Admits a newcomer and gates it at once.
     fn admit(&mut self, index: usize, pending: u8) -> io::Result<()> {
         let address = self.floors[index].address;
         let reply = admit(&mut *self.head, address, pending);
@@ -45,7 +69,7 @@ impl<W: Write> World<'_, W> {
             format_args!("the head admits it on link {}", place + 1),
         )?;
         self.post(&reply, false)?;
-        let reply = gate(&mut *self.head, place);
+        let reply = self.client.welcome(self.now, &mut *self.head, place);
         self.post(&reply, false)
     }
 
@@ -77,8 +101,25 @@ impl<W: Write> World<'_, W> {
                 self.leave(index, "leaves by itself: no GATE for 62,500,000 ticks")
             }
             BoxNotice::Deregistered => self.leave(index, "hears the head's farewell and leaves"),
-            BoxNotice::Grant(_) | BoxNotice::Open | BoxNotice::Close => Ok(()),
+            BoxNotice::Grant(Granted { force: true, .. }) => self.report(index),
+            BoxNotice::Grant(_) => Ok(()),
+            BoxNotice::Open => {
+                self.floors[index].open_window(self.now);
+                Ok(())
+            }
+            BoxNotice::Close => {
+                self.floors[index].close_window(self.now);
+                Ok(())
+            }
         }
+    }
+
+    /// A grant's force bit asks for a REPORT, which no box sends by itself
+    /// (R124).
+    fn report(&mut self, index: usize) -> io::Result<()> {
+        let reply = self.floors[index].report(self.now);
+        self.refused += u64::from(reply.number != 0);
+        self.hear_box(index, &reply, Cause::Message)
     }
 
     /// A box is out, and its client asks to register again.

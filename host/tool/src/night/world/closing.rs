@@ -1,4 +1,4 @@
-//! The end of a night: its table, and whether all went well.
+//! The end of a night: its tables, and whether all went well.
 
 use super::World;
 use crate::night::floor::Floor;
@@ -10,7 +10,7 @@ use plain::numbers::WATCHDOG;
 use std::io::{self, Write};
 
 impl<W: Write> World<'_, W> {
-    /// The closing table, and whether all went well.
+    /// The closing tables, and whether all went well.
     pub(super) fn close(mut self) -> io::Result<bool> {
         self.tell_head("the night ends")?;
         let output = &mut self.timeline.output;
@@ -19,7 +19,10 @@ impl<W: Write> World<'_, W> {
             floor.record.close(self.now);
             floor.record.write(output, floor.number)?;
         }
+        self.desk.write_table(output, &self.floors)?;
         let kept = self.write_promise()?;
+        self.write_faults()?;
+        self.write_queues()?;
         let told = matches!(self.options.scenario, Scenario::Floor31 | Scenario::Dark);
         if told {
             let floor = &self.floors[self.remembered()];
@@ -27,7 +30,26 @@ impl<W: Write> World<'_, W> {
             floor.record.write_story(output, floor.number)?;
         }
         self.timeline.output.flush()?;
-        Ok(kept && self.unsound == 0 && self.astray == 0)
+        Ok(kept && self.unsound == 0 && self.refused == 0 && self.astray == 0)
+    }
+
+    /// What came into the queues and went, and which floor waits.
+    fn write_queues(&mut self) -> io::Result<()> {
+        let [mut come, mut gone, mut waiting] = [0; 3];
+        for floor in &mut self.floors {
+            floor.queues.fill(self.now);
+            let traffic = floor.queues.traffic();
+            come += traffic.come;
+            gone += traffic.gone;
+            waiting += traffic.waiting;
+        }
+        let [come, gone, waiting] = [come, gone, waiting].map(thousands);
+        let output = &mut self.timeline.output;
+        writeln!(
+            output,
+            "Data frames: {come} came to the boxes, {gone} went, {waiting} wait."
+        )?;
+        self.desk.write_verdict(output, &self.floors)
     }
 
     /// Whether no half-open pair lasted, measured by the longest way that a
@@ -55,20 +77,21 @@ impl<W: Write> World<'_, W> {
             output,
             "No pair half-open for more than {bound} ({time} s): {verdict}."
         )?;
-        if self.unsound > 0 {
-            writeln!(
-                output,
-                "Calls refused with 12, 13 or 14: {}.",
-                thousands(self.unsound)
-            )?;
-        }
-        if self.astray > 0 {
-            writeln!(
-                output,
-                "Advances that didn't make their ticks: {}.",
-                thousands(self.astray)
-            )?;
-        }
         Ok(kept)
+    }
+
+    /// What has no place in a night, if it has happened.
+    fn write_faults(&mut self) -> io::Result<()> {
+        for (what, times) in [
+            ("Calls refused with 12, 13 or 14", self.unsound),
+            ("REPORTs refused to a client", self.refused),
+            ("Advances that didn't make their ticks", self.astray),
+        ] {
+            if times > 0 {
+                let times = thousands(times);
+                writeln!(self.timeline.output, "{what}: {times}.")?;
+            }
+        }
+        Ok(())
     }
 }

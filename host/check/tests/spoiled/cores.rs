@@ -1,143 +1,18 @@
-//! The checks find the proved core where it is spoiled in a small way, and
-//! nothing where it isn't.
+//! The proved core, spoiled.
 
-use check::{check, check_fixed, compare, compare_wide};
-use crustnewt_core::{
-    Advanced, BoxCore, BoxReply, Core, HeadCore, HeadReply, PlainCore, ProvedCore,
-};
-use crustnewt_tool::night::{self, Options, Progress, Scenario};
-use crustnewt_tool::replay::replay;
-use plain::numbers::TICKS_PER_SECOND;
+use crate::flaws::Flaw;
+use crate::sets::zeroed;
+use crustnewt_core::{Advanced, BoxCore, BoxReply, Core, HeadCore, HeadReply, ProvedCore};
 use plain::{
     Address, Body, FloorBox, Frame, GateRequest, Head, HeadNotice, HeadNoticeKind, Link, Message,
-    Newcomer, Next, OpenWindow, Window,
+    Newcomer, Next, OpenWindow, QueueSets, Window,
 };
 
-/// What is wrong with a spoiled core.
-#[derive(Clone, Copy, Debug, PartialEq, Eq)]
-enum Flaw {
-    None,
-    /// A discovery GATE restarts the watchdog: floor 31 again.
-    WatchdogOnDiscovery,
-    /// Setting the count moves no timer, but here it does.
-    CountMovesReport,
-    /// One octet after the last frame is written.
-    StrayOctet,
-    /// A frame fits a window that is one tick short.
-    FitsShortWindow,
-    /// The writer keeps wide lengths.
-    WritesWide,
-    /// A refused tick still moves the head's count.
-    RefusedTickCounts,
-    /// The grant waited for is forgotten, in a field that no line prints.
-    HiddenField,
-    /// A gate leaves the periodic timer as it was.
-    GateKeepsPeriodic,
-    /// The round trip is taken as a plain difference: wrong at the wrap.
-    TripAtWrap,
-    /// A refused fresh head idles its links all the same.
-    RefusedFreshIdles,
-    /// A refusal of the head tells a notice.
-    RefusalTells,
-    /// The reader judges the pad.
-    ReadsPad,
-    /// A request ends in a panic.
-    Panics,
-    /// An advance of the head makes one tick more where it stops.
-    OneTickMore,
-    /// An advance of the box stops before the tick that it is to stop after.
-    StopsBeforeRing,
-    /// An advance of the head stops where its window opens.
-    StopsAtWindow,
-    /// An advance stamps the head's frames with the count that it began at.
-    FirstCount,
-    /// An advance leaves the watchdog of the head's first link as it was.
-    TimerStands,
-    /// The head judges how far to advance ahead of its output.
-    NineBeforeTwelve,
-    /// The box takes how far to advance modulo 2^32.
-    Modulo,
-    /// The head refuses to advance by 65,536.
-    RefusesMost,
-    /// The box makes 65,537 ticks if it is asked to.
-    TakesMore,
-    /// An advance that is to be refused with 14 is done, without a tick.
-    FourteenLate,
-    /// An advance is refused with 14 where only a later tick would be.
-    FourteenEarly,
-    /// A refused advance of the box says that it made a tick.
-    MadeOfRefusal,
-    /// An advance that hands out nothing writes into the output.
-    SilentWrites,
-    /// The head says that it is silent for a tick more than it is.
-    HeadUntilMore,
-    /// The head says that it is silent for a tick less than it is.
-    HeadUntilLess,
-    /// The box says that it is silent for a tick more than it is.
-    BoxUntilMore,
-    /// A group's source is read and heard.
-    TakesGroup,
-    /// A source of zero is read and heard.
-    TakesZero,
-    /// A group's destination is refused as a group's source is.
-    JudgesDestination,
-    /// A group's source is written.
-    WritesGroup,
-    /// A source of zero is written.
-    WritesZero,
-}
-
-impl Flaw {
-    /// The octets as they are handed to the proved core, which judges them;
-    /// `None` where it is the flaw that refuses them.
-    fn octets(self, frame: &[u8]) -> Option<Vec<u8>> {
-        let mut octets = frame.to_vec();
-        match (self, octets.get_mut(..12)) {
-            (Flaw::JudgesDestination, Some(addresses)) => {
-                let group = addresses[0] & 1 == 1;
-                return (!group || ProvedCore.read(frame).is_err()).then_some(octets);
-            }
-            (Flaw::TakesGroup, Some(addresses)) => addresses[6] &= !1,
-            (Flaw::TakesZero, Some(addresses)) if addresses[6..] == [0; 6] => addresses[6] = 2,
-            _ => {}
-        }
-        Some(octets)
-    }
-
-    /// The source that the proved core judges in the place of this one.
-    fn source(self, source: Address) -> Address {
-        match self {
-            Flaw::WritesGroup => Address(source.0 & !(1 << 40)),
-            Flaw::WritesZero if source == Address::ZERO => Address(2 << 40),
-            _ => source,
-        }
-    }
-}
-
-/// The flaws of an advance, and of what is said of ticks to come.
-const OF_ADVANCES: [Flaw; 16] = [
-    Flaw::OneTickMore,
-    Flaw::StopsBeforeRing,
-    Flaw::StopsAtWindow,
-    Flaw::FirstCount,
-    Flaw::TimerStands,
-    Flaw::NineBeforeTwelve,
-    Flaw::Modulo,
-    Flaw::RefusesMost,
-    Flaw::TakesMore,
-    Flaw::FourteenLate,
-    Flaw::FourteenEarly,
-    Flaw::MadeOfRefusal,
-    Flaw::SilentWrites,
-    Flaw::HeadUntilMore,
-    Flaw::HeadUntilLess,
-    Flaw::BoxUntilMore,
-];
-
 /// The proved core with a flaw.
-struct Spoiled(Flaw);
+pub struct Spoiled(pub Flaw);
 
-struct SpoiledHead(Flaw, Box<dyn HeadCore>);
+/// Its head, with the sets that were told last.
+struct SpoiledHead(Flaw, Box<dyn HeadCore>, QueueSets);
 
 struct SpoiledBox(Flaw, Box<dyn BoxCore>);
 
@@ -145,15 +20,27 @@ impl Core for Spoiled {
     fn read(&self, frame: &[u8]) -> Result<Message, u8> {
         let padded = frame.get(45..).is_some_and(|pad| pad != [0; 15]);
         let octets = self.0.octets(frame).ok_or(4)?;
-        match ProvedCore.read(&octets) {
-            Ok(_) if padded && self.0 == Flaw::ReadsPad => Err(4),
-            read => read,
+        let mut message = ProvedCore.read(&octets)?;
+        if padded && self.0 == Flaw::ReadsPad {
+            return Err(4);
         }
+        if let Body::Report(sets) = &mut message.body {
+            *sets = self.0.sets(*sets, frame);
+        }
+        Ok(message)
     }
 
     fn write(&self, message: &Message) -> (u8, Frame) {
         let from = self.0.source(message.from);
-        let (number, frame) = ProvedCore.write(&Message { from, ..*message });
+        let body = match message.body {
+            Body::Report(sets) if self.0 == Flaw::WritesPad => Body::Report(zeroed(&sets)),
+            body => body,
+        };
+        let (number, frame) = ProvedCore.write(&Message {
+            from,
+            body,
+            ..*message
+        });
         match self.0 {
             Flaw::WritesWide => (0, frame),
             _ => (number, frame),
@@ -161,7 +48,7 @@ impl Core for Spoiled {
     }
 
     fn head(&self) -> Box<dyn HeadCore> {
-        Box::new(SpoiledHead(self.0, ProvedCore.head()))
+        Box::new(SpoiledHead(self.0, ProvedCore.head(), QueueSets::NONE))
     }
 
     fn floor_box(&self) -> Box<dyn BoxCore> {
@@ -175,6 +62,26 @@ impl SpoiledHead {
         let mut output = self.1.output().to_vec();
         output[at..at + octets.len()].copy_from_slice(octets);
         self.1.lend_output(output);
+    }
+
+    /// What is told of a REPORT with these sets, spoiled.
+    fn spoil_told(&mut self, link: u64, sets: QueueSets, reply: &mut HeadReply) {
+        match (self.0, &mut reply.notice) {
+            (Flaw::OtherSets, Some(notice)) => {
+                std::mem::swap(&mut notice.sets, &mut self.2);
+            }
+            (Flaw::WaitingTells, notice @ None) if reply.number == 0 => {
+                let (kind, trip) = (HeadNoticeKind::Report, 0);
+                *notice = Some(HeadNotice {
+                    kind,
+                    link,
+                    trip,
+                    sets,
+                });
+            }
+            (Flaw::HighestFirst | Flaw::TellsPad, Some(notice)) => notice.sets = sets,
+            _ => {}
+        }
     }
 
     /// How far the head advances, spoiled before it does.
@@ -258,12 +165,24 @@ impl HeadCore for SpoiledHead {
             return HeadReply::refused(4);
         };
         let mut reply = self.1.hear(link, &octets);
+        if let Ok(Body::Report(sets)) = ProvedCore.read(&octets).map(|message| message.body) {
+            let sets = match self.0 {
+                Flaw::TellsPad => Flaw::KeepsPad.sets(sets, frame),
+                flaw => flaw.sets(sets, frame),
+            };
+            self.spoil_told(link, sets, &mut reply);
+        }
         let (count, kind) = (self.1.state().count, HeadNoticeKind::Report);
         match (self.0, &mut reply.notice) {
             (Flaw::TripAtWrap, Some(notice)) if notice.trip > count.0 => notice.trip = 0,
             (Flaw::RefusalTells, notice) if reply.number == 7 => {
-                let (link, trip) = (0, 0);
-                *notice = Some(HeadNotice { kind, link, trip });
+                let (link, trip, sets) = (0, 0, QueueSets::NONE);
+                *notice = Some(HeadNotice {
+                    kind,
+                    link,
+                    trip,
+                    sets,
+                });
             }
             _ => {}
         }
@@ -338,6 +257,28 @@ impl BoxCore for SpoiledBox {
     fn deregister(&mut self) -> BoxReply {
         assert!(self.0 != Flaw::Panics, "this is the flaw");
         self.1.deregister()
+    }
+    fn report(&mut self, number: u8, sets: &[u8]) -> BoxReply {
+        let before = self.1.state();
+        let reply = self.1.report(number, sets);
+        let without_last = sets.split_last().map_or(sets, |(_, rest)| rest);
+        let fits = |number, sets| QueueSets::of(number, sets).is_some();
+        match (self.0, reply.number) {
+            (Flaw::ReportRestartsWatchdog, 0) => self.change(|state| state.watchdog = 62_500_000),
+            (Flaw::ReportKeepsTimer, 0) => self.change(|state| state.report = before.report),
+            (Flaw::ReportActivatesNothing, 0) => self.change(|state| {
+                state.light = before.light;
+                state.grants = before.grants;
+            }),
+            (Flaw::FourBeforeSeven, 7) if !fits(number, sets) => return BoxReply::refused(4),
+            // An empty set that begins behind the fortieth octet is left out.
+            (Flaw::NumberUncounted, 4) if sets.len() == 40 && fits(number - 1, without_last) => {
+                return self.1.report(number - 1, without_last);
+            }
+            (Flaw::PassesOverOctet, 4) => return self.1.report(number, without_last),
+            _ => {}
+        }
+        reply
     }
     fn hear(&mut self, frame: &[u8], random: u32) -> BoxReply {
         let Some(octets) = self.0.octets(frame) else {
@@ -416,125 +357,5 @@ impl BoxCore for SpoiledBox {
     }
     fn set_state(&mut self, state: &FloorBox) {
         self.1.set_state(state);
-    }
-}
-
-/// Lines of the shortest script that shows a flaw beside another core. The
-/// first one may be a joint run's, which takes more lines than a state does.
-fn found(core: &dyn Core, flaw: Flaw) -> Option<usize> {
-    let spoiled = Spoiled(flaw);
-    let failures = (1..8000).filter_map(|seed| check(core, &spoiled, seed).err());
-    let failure = failures
-        .take(2)
-        .min_by_key(|failure| failure.script.len())?;
-    assert!(compare(core, &spoiled, &failure.script).is_some());
-    let mut played = Vec::new();
-    replay(&PlainCore, failure.to_string().as_bytes(), &mut played).unwrap();
-    assert!(!played.contains(&b'?'), "{failure}");
-    let shorter = failure.script.iter().enumerate().map(|(drop, _)| {
-        let mut rest = failure.script.clone();
-        rest.remove(drop);
-        rest
-    });
-    for rest in shorter {
-        assert_eq!(compare(core, &spoiled, &rest), None);
-    }
-    Some(failure.script.len())
-}
-
-#[test]
-fn equal_cores_do_not_differ() {
-    for seed in 0..400 {
-        assert!(check(&PlainCore, &Spoiled(Flaw::None), seed).is_ok());
-        assert_eq!(compare_wide(&PlainCore, &Spoiled(Flaw::None), seed), None);
-    }
-}
-
-#[test]
-fn fixed_cases_find_flaws_too() {
-    assert!(check_fixed(&PlainCore, &Spoiled(Flaw::None)).is_ok());
-    for flaw in [
-        Flaw::WatchdogOnDiscovery,
-        Flaw::StrayOctet,
-        Flaw::TakesGroup,
-        Flaw::TakesZero,
-        Flaw::JudgesDestination,
-    ] {
-        let failure = check_fixed(&PlainCore, &Spoiled(flaw)).unwrap_err();
-        assert!(failure.script.len() <= 6, "{failure}");
-    }
-}
-
-#[test]
-fn each_flaw_is_found_and_shrunk() {
-    for flaw in [
-        Flaw::WatchdogOnDiscovery,
-        Flaw::CountMovesReport,
-        Flaw::StrayOctet,
-        Flaw::FitsShortWindow,
-        Flaw::RefusedTickCounts,
-        Flaw::HiddenField,
-        Flaw::GateKeepsPeriodic,
-        Flaw::TripAtWrap,
-        Flaw::RefusedFreshIdles,
-        Flaw::RefusalTells,
-        Flaw::ReadsPad,
-        Flaw::Panics,
-        Flaw::TakesGroup,
-        Flaw::TakesZero,
-        Flaw::JudgesDestination,
-    ]
-    .into_iter()
-    .chain(OF_ADVANCES)
-    {
-        let lines = found(&PlainCore, flaw);
-        assert!(lines.is_some_and(|lines| lines <= 8), "{flaw:?} {lines:?}");
-    }
-}
-
-/// Its own single ticks give away an advance that is wrong on both sides.
-#[test]
-fn advances_are_held_against_the_ticks_of_the_same_core() {
-    for flaw in OF_ADVANCES {
-        let lines = found(&Spoiled(flaw), flaw);
-        assert!(lines.is_some_and(|lines| lines <= 8), "{flaw:?} {lines:?}");
-    }
-}
-
-/// A night whose head or boxes are silent for less time than they say, or stop
-/// early, ends badly.
-#[test]
-fn a_night_holds_ticks_made_against_what_was_said() {
-    for (flaw, goes_well) in [
-        (Flaw::None, true),
-        (Flaw::HeadUntilMore, false),
-        (Flaw::BoxUntilMore, false),
-        (Flaw::OneTickMore, false),
-        (Flaw::StopsBeforeRing, false),
-        (Flaw::StopsAtWindow, false),
-    ] {
-        let options = Options {
-            scenario: Scenario::Dark,
-            // With more of them a frame may arrive at the tick in question.
-            boxes: 1,
-            delay: 62,
-            loss: 0,
-            seed: 1,
-            ticks: 3 * TICKS_PER_SECOND,
-            every_tick: false,
-        };
-        let ended = night::run(&Spoiled(flaw), &options, Vec::new(), Progress::nowhere());
-        assert_eq!(ended.unwrap(), goes_well, "{flaw:?}");
-    }
-}
-
-#[test]
-fn asked_directly_a_writer_that_refuses_too_little_is_found() {
-    for flaw in [Flaw::WritesWide, Flaw::WritesGroup, Flaw::WritesZero] {
-        let spoiled = Spoiled(flaw);
-        let mut seeds = 0..200;
-        let found = seeds.any(|seed| compare_wide(&PlainCore, &spoiled, seed).is_some());
-        assert!(found, "{flaw:?}");
-        assert!((0..200).all(|seed| check(&PlainCore, &spoiled, seed).is_ok()));
     }
 }
