@@ -2,15 +2,18 @@
 -- Assumes nothing.
 use Prim.Native.Nat.{ℕ, zero, suc, _+_, _-_, _*_, _/_, _^_, _≤_, _<_}
 use mathlib.Core.Path.{_≡_, refl, sym, ap, _∙_}
+use mathlib.Core.Bool.{true, _&&_}
 use mathlib.Core.List.{[]}
 use native.Mathlib.Nat.{add-zero, zero-add, sub-zero, pow-suc}
 use native.Mathlib.Omega.{arith}
+use borrow.Author.Tests.{eq-eqb}
+use lib.Dec.{eqb, leb}
 use lib.ListN.{length, take, drop, replicate, length-drop, length-replicate, take-append-drop}
 use lib.Pow.{pow-add, high}
 use Rattle.octets.specs.Octets.{onto, bytes, valueFrom, value, Octets}
 use Rattle.octets.specs.Laws.{value-bytes, value-append, value-zeros, value-below, length-onto, octets-drop, octets-bytes}
 use Rattle.frame_queues.specs.Laws.{none, cleared-is, cleared-all, cleared-drop, cleared-take}
-use Rattle.frame_queues.specs.Queues.{cleared, fortyOf, setsOf}
+use Rattle.frame_queues.specs.Queues.{cleared, fortyOf, setsOf, SetsTyped, sameSets, endsAt}
 use Rattle.frame_queues.specs.declared.Sets.{Sets}
 
 -- a power of 256 is one of 2
@@ -64,3 +67,18 @@ sets-cut s n =
     let part : (a : ℕ) → take 8 (drop a (cleared n o)) ≡ cleared (n - a) (take 8 (drop a o)) =
     λ a. ap (take 8) (cleared-drop a n o) ∙ cleared-take 8 (n - a) (drop a o) in
     rw (part 0, part 8, part 16, part 24, part 32, sub-zero)
+
+-- sets that end in the last number are whole before it
+pub ends-late : (s : Sets) (n : ℕ) → SetsTyped s → 32 ≤ n
+    → endsAt n s ≡ leb n 40 && eqb (value (cleared (n - 32) (bytes 8 (s .fifth)))) (s .fifth)
+unfolding endsAt
+ends-late s n h late =
+    let whole : (x k : ℕ) → x < 2 ^ 64 → 8 ≤ k → eqb (value (cleared k (bytes 8 x))) x ≡ true =
+    λ x k f e. eq-eqb _ x (first-all x k f e) in
+    ap (λ (t : Sets). leb n 40 && sameSets t s) (sets-cut s n)
+    ∙ rw (
+      whole (s .first) n (h .0) (omega arith),
+      whole (s .second) (n - 8) (h .1) (omega arith),
+      whole (s .third) (n - 16) (h .2) (omega arith),
+      whole (s .fourth) (n - 24) (h .3) (omega arith),
+    )

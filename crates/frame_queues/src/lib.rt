@@ -196,11 +196,14 @@ impl Sets {
         }
     }
 
-    // Whether n octets are at most forty, and zeros stand behind them.
+    // Whether n octets are at most forty, and zeros stand behind them. From 32 on only the last number has any behind them.
     pub fn ends(self, n: usize) -> bool
         ensures { λ r. ⌜ r ≡ endsAt n self ⌝ }
     {
-        (n <= BODY) & same(self.cut(n), self)
+        if n < 32 {
+            return same(self.cut(n), self);
+        }
+        (n <= BODY) & (first(self.fifth, n - 32) == self.fifth)
     }
 
     // Whether the sets don't run past the forty octets, and zeros stand behind them.
