@@ -6,7 +6,7 @@ use mathlib.Core.List.{List, [], _∷_, _++_, append-nil, append-assoc}
 use native.Mathlib.Nat.{add-mul, mul-assoc, mul-comm, add-assoc, pow-suc, pow-le-pow-right, add-zero, zero-add, suc-add, not-suc-le-zero, le-of-suc-le-suc, le-refl}
 use native.Mathlib.Omega.{arith}
 use lib.ListN.{length, getD, take, drop, set, replicate, length-take, length-drop}
-use lib.Seq.{drop-cons, lt-length-set, getD-set-same, drop-set-lt, getD-drop, getD-take, take-add, drop-drop}
+use lib.Seq.{drop-cons, lt-length-set, getD-set-same, drop-set-lt, getD-drop, getD-take, take-all, take-add, drop-drop}
 use Rattle.octets.specs.Octets.{onto, bytes, valueFrom, value, fieldOf, Octets}
 use Rattle.octets.specs.Over.{over}
 
@@ -125,6 +125,10 @@ put-turn s (suc j) x h k e =
 -- a part that lies within the list is as long as was asked
 pub length-part : (l : List ℕ) (a n : ℕ) → a + n ≤ length l → length (take n (drop a l)) ≡ n
 length-part l a n h = simp (length-take, length-drop) (omega arith)
+
+-- a part that goes to the end is what stands from its beginning on
+pub rest : (n : ℕ) (l : List ℕ) → take (length l - n) (drop n l) ≡ drop n l
+rest n l = take-all (length l - n) (drop n l) (simp length-drop (omega arith))
 
 -- a part of octets is octets
 pub octets-take : (n : ℕ) (l : List ℕ) → Octets l → Octets (take n l)

@@ -1,6 +1,5 @@
 -- `face_frame_read::read_report` meets its promise.
 -- Assumes nothing.
-use Prim.Native.Nat.{_-_}
 use mathlib.Core.Path.{_≡_, ap, _∙_}
 use mathlib.Core.Bool.{true, and-false}
 use native.Mathlib.Omega.{arith}
@@ -8,9 +7,8 @@ use borrow.Author.Needs.{needs}
 use borrow.Author.Tests.{le-leb, lt-leb}
 use denote.Ref.{now}
 use lib.Dec.{leb}
-use lib.ListN.{length, take, drop, length-drop}
-use lib.Seq.{take-all}
-use Rattle.octets.specs.Laws.{octets-drop}
+use lib.ListN.{drop, length-drop}
+use Rattle.octets.specs.Laws.{rest, octets-drop}
 use Rattle.octets.specs.Octets.{Octets}
 use Rattle.frame_queues.specs.Laws.{forty-sets}
 use Rattle.frame_queues.specs.Queues.{usedOf, cutOf, fortyOf, setsOf}
@@ -52,11 +50,10 @@ returns c =
     let w = u .before .before .before in
     let l = now (w .before .args .s) in
     let m = now (w .before .args .m) in
-    let all : take (length l - 20) (drop 20 l) ≡ drop 20 l = take-all (length l - 20) (drop 20 l) (simp length-drop (omega arith)) in
     let octets : Octets l = λ j. w .shared-slice-known .given j .fits in
     let back : fortyOf (setsOf (drop 20 l)) ≡ drop 20 l = forty-sets (drop 20 l) (octets-drop 20 l octets) (simp length-drop (omega arith)) in
-    let used : u .used .result ≡ usedOf (drop 20 l) = u .used .ensures ∙ ap usedOf all in
-    let cut : k .cut .result ≡ setsOf (cutOf (drop 20 l)) = k .cut .ensures ∙ rw (used, k .before .of .ensures, all, back) in
+    let used : u .used .result ≡ usedOf (drop 20 l) = u .used .ensures ∙ ap usedOf (rest 20 l) in
+    let cut : k .cut .result ≡ setsOf (cutOf (drop 20 l)) = k .cut .ensures ∙ rw (used, k .before .of .ensures, rest 20 l, back) in
     let room : leb (usedOf (drop 20 l)) 40 ≡ true = le-leb (usedOf (drop 20 l)) 40 (rw used at (i .if1 .taken)) in
     rw (c .before .before .take .ensures) (ap (sourced l m) (report-words l m (k .cut .result) room cut))
 
@@ -72,8 +69,7 @@ returns-2 c =
     let i = c .before .before .before .before in
     let u = i .before in
     let l = now (u .before .before .before .before .args .s) in
-    let all : take (length l - 20) (drop 20 l) ≡ drop 20 l = take-all (length l - 20) (drop 20 l) (simp length-drop (omega arith)) in
-    let used : u .used .result ≡ usedOf (drop 20 l) = u .used .ensures ∙ ap usedOf all in
+    let used : u .used .result ≡ usedOf (drop 20 l) = u .used .ensures ∙ ap usedOf (rest 20 l) in
     rw (c .before .before .refuse .ensures, sourced-ranged, lt-leb (usedOf (drop 20 l)) 40 (rw used at (i .if1 .left)), and-false)
 
 pub read-report-spec : {M : Type 1} → statement M

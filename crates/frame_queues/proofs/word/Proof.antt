@@ -1,12 +1,10 @@
 -- `frame_queues::word` meets its promise.
 -- Assumes nothing.
-use Prim.Native.Nat.{_-_}
 use mathlib.Core.List.{[]}
 use mathlib.Core.Path.{_≡_}
-use native.Mathlib.Omega.{arith}
 use denote.Ref.{now}
-use lib.ListN.{length, take, drop, length-drop, drop-of-length-le}
-use lib.Seq.{take-all}
+use lib.ListN.{drop, drop-of-length-le}
+use Rattle.octets.specs.Laws.{rest}
 use Rattle.octets.specs.Octets.{valueFrom}
 use borrow.Author.Needs.{needs}
 use Rattle.frame_queues.proofs.word.Statement.{statement}
@@ -34,9 +32,7 @@ number-requires c κs = search needs
 returns-2 : tie.Need-returns-2
 returns-2 c =
     let a = c .before .before .before .before .args in
-    let l = now (a .s) in
-    let all : take (length l - a .at) (drop (a .at) l) ≡ drop (a .at) l = take-all (length l - a .at) (drop (a .at) l) (simp length-drop (omega arith)) in
-    rw all at (c .number .ensures)
+    rw (rest (a .at) (now (a .s))) at (c .number .ensures)
 
 pub word-spec : {M : Type 1} → statement M
 word-spec =

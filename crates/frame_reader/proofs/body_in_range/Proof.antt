@@ -1,14 +1,10 @@
 -- `frame_reader::body_in_range` meets its promise.
 -- Assumes nothing.
-use Prim.Native.Nat.{_-_}
 use mathlib.Core.Bool.{or-assoc, or-false}
-use mathlib.Core.Path.{_≡_}
-use native.Mathlib.Omega.{arith}
 use borrow.Author.Needs.{needs}
 use borrow.Author.Tests.{eq-eqb, ne-eqb}
 use denote.Ref.{now}
-use lib.ListN.{length, take, drop, length-drop}
-use lib.Seq.{take-all}
+use Rattle.octets.specs.Laws.{rest}
 use Rattle.frame.specs.Reading.{bodyInRange}
 use Rattle.frame_reader.proofs.body_in_range.Statement.{statement}
 use Rattle.frame_reader.proofs.body_in_range.Tie as tie
@@ -39,10 +35,9 @@ returns-2 : tie.Need-returns-2
 unfolding bodyInRange
 returns-2 c =
     let l = now (c .before .before .before .before .before .before .args .s) in
-    let all : take (length l - 20) (drop 20 l) ≡ drop 20 l = take-all (length l - 20) (drop 20 l) (simp length-drop (omega arith)) in
     rw (
       c .used .ensures,
-      all,
+      rest 20 l,
       ne-eqb _ _ (c .before .before .before .if1 .left),
       eq-eqb _ _ (c .before .before .if2 .taken),
     )

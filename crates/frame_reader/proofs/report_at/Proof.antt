@@ -1,13 +1,11 @@
 -- `frame_reader::report_at` meets its promise.
 -- Assumes nothing.
-use Prim.Native.Nat.{_-_}
 use mathlib.Core.Path.{_≡_, ap, _∙_}
 use native.Mathlib.Omega.{arith}
 use borrow.Author.Needs.{needs}
 use denote.Ref.{now}
-use lib.ListN.{length, take, drop, length-drop}
-use lib.Seq.{take-all}
-use Rattle.octets.specs.Laws.{octets-drop}
+use lib.ListN.{drop, length-drop}
+use Rattle.octets.specs.Laws.{rest, octets-drop}
 use Rattle.octets.specs.Octets.{Octets}
 use Rattle.frame_queues.specs.Laws.{forty-sets}
 use Rattle.frame_queues.specs.Queues.{fortyOf, setsOf}
@@ -41,9 +39,8 @@ returns c =
     let k = o .before .before in
     let l = now (k .before .args .s) in
     let octets : Octets l = λ i. k .shared-slice-known .given i .fits in
-    let all : take (length l - 20) (drop 20 l) ≡ drop 20 l = take-all (length l - 20) (drop 20 l) (simp length-drop (omega arith)) in
     let back : fortyOf (setsOf (drop 20 l)) ≡ drop 20 l = forty-sets (drop 20 l) (octets-drop 20 l octets) (simp length-drop (omega arith)) in
-    ap Report (c .cut .ensures ∙ rw (c .before .used .ensures, o .of .ensures, all, back))
+    ap Report (c .cut .ensures ∙ rw (c .before .used .ensures, o .of .ensures, rest 20 l, back))
 
 pub report-at-spec : {M : Type 1} → statement M
 report-at-spec =
