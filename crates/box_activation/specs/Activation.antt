@@ -12,19 +12,19 @@ use Rattle.box_grants.specs.Activation.{remove}
 use Rattle.box_grants.specs.Listed.{listOf, packed, chooseOf}
 use Rattle.box_grants.specs.declared.Chosen.{Chosen}
 use Rattle.box_grants.specs.declared.Chosen.the-variants.{Nothing, Due}
-use Rattle.box_light.specs.Light.{laserOnFor, atRest}
-use Rattle.box_light.specs.declared.Light.{Light}
+use Rattle.box_light.specs.Light.{lightIn, laserOnFor, atRest}
+use Rattle.box_light.specs.declared.Phase.the-variants as Phase
 use Rattle.box_registration.specs.Registration.{isRegistered}
 use Rattle.box_processes.specs.Parts.{withList, withLight}
 use Rattle.box_processes.specs.declared.Processes.{Processes}
 
 -- R132
 unfoldable pub lightUp : Processes → Span → Quanta → Processes
-lightUp p e sync = withLight (withList p (packed (remove e (listOf (p .list))))) (Light.Lit (laserOnFor sync) (e .length) sync)
+lightUp p e sync = withLight (withList p (packed (remove e (listOf (p .list))))) (lightIn (Phase.Lit (e .length) sync) (laserOnFor sync))
 
 -- R129
 unfoldable pub begin : Processes → Span → Quanta → Quanta → Processes
-begin p e sync wait = cond (eqb (wait .0) 0) (lightUp p e sync) (withLight p (Light.Due (record { left = wait .0 }) e sync))
+begin p e sync wait = cond (eqb (wait .0) 0) (lightUp p e sync) (withLight p (lightIn (Phase.Due e sync) (record { left = wait .0 })))
 
 abbrev pub headFor : Processes → Span → Quanta → Reach → Processes
 headFor p e sync Past = p

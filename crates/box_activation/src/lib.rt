@@ -3,6 +3,7 @@ ghost use mathlib.Core.Path.{_≡_};
 ghost use Rattle.box_activation.specs.Activation.{lightUp, begin, headFor, serve, activate};
 use box_grants::Chosen;
 use box_light::Light;
+use box_light::Phase;
 use box_processes::Processes;
 use clock::Quanta;
 use clock::Reach;
@@ -17,11 +18,8 @@ pub fn light_up(p: Processes, entry: Span, sync: Quanta) -> Processes
     let left = list.without(entry);
     let timer = Light::laser_on(sync);
     let length = entry.length;
-    let lit = Light::Lit {
-        timer,
-        length,
-        sync,
-    };
+    let phase = Phase::Lit { length, sync };
+    let lit = Light { phase, timer };
     p.with_list(left).with_light(lit)
 }
 
@@ -34,8 +32,8 @@ fn begin(p: Processes, entry: Span, sync: Quanta, wait: Quanta) -> Processes
         return light_up(p, entry, sync);
     }
     let timer = Timer::stopped().start(wait);
-    let due = Light::Due { timer, entry, sync };
-    p.with_light(due)
+    let phase = Phase::Due { entry, sync };
+    p.with_light(Light { phase, timer })
 }
 
 fn head_for(p: Processes, entry: Span, sync: Quanta, way: Reach) -> Processes

@@ -163,7 +163,7 @@ module _ (p : Processes) (c : Calm p) (s : Parts p) where
   lit-sound : lightSound (lightPassed (p .light) 1) (listLeft (activates p) (p .list)) ≡ true
   lit-sound =
       either (λ (l : GrantList). lightSound (lightPassed (p .light) 1) l ≡ true) (activates p) (packed []) (p .list)
-      (λ h. rest-sound (packed []) (lightPassed (p .light) 1) (passed-rest (p .light) 1 ∙ at-rest h))
+      (λ h. rest-sound (packed []) (lightPassed (p .light) 1) (p .list) (passed-rest (p .light) 1 ∙ at-rest h) (light-sound (p .light) (p .list) (s .light) (c .timer)))
       (λ _. light-sound (p .light) (p .list) (s .light) (c .timer))
 
   keeps : processesSound (processesPassed p 1) ≡ true

@@ -11,6 +11,7 @@ ghost use Rattle.box_calls.specs.Pass.{quietOf};
 ghost use Rattle.box_calls.specs.Hear.{isDiscovery, isFor, heardOf, hearOf};
 ghost use Rattle.box_calls.specs.Send.{remaining, fitsIn, sendOf};
 use box_light::Light;
+use box_light::Phase;
 use box_processes::Processes;
 use box_processes::Step;
 use box_telling::Frames;
@@ -410,26 +411,15 @@ fn is_discovery(body: Body) -> bool
 fn remaining(light: Light) -> u32
     ensures { λ r. ⌜ r ≡ remaining light ⌝ }
 {
-    match light {
-        Light::Rest => 0,
-        Light::Before {
-            timer: _,
-            random: _,
-            sync: _,
-        } => 0,
-        Light::Random { timer: _, sync: _ } => 0,
-        Light::Warming { timer: _ } => 0,
-        Light::Asking { timer } => timer.left,
-        Light::Due {
-            timer: _,
-            entry: _,
-            sync: _,
-        } => 0,
-        Light::Lit {
-            timer: _,
-            length: _,
-            sync: _,
-        } => 0,
-        Light::Open { timer } => timer.left,
+    let phase = light.phase;
+    match phase {
+        Phase::Rest => 0,
+        Phase::Before { random: _, sync: _ } => 0,
+        Phase::Random { sync: _ } => 0,
+        Phase::Warming => 0,
+        Phase::Asking => light.timer.left,
+        Phase::Due { entry: _, sync: _ } => 0,
+        Phase::Lit { length: _, sync: _ } => 0,
+        Phase::Open => light.timer.left,
     }
 }

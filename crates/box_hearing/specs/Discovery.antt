@@ -9,9 +9,9 @@ use Rattle.clock.specs.declared.Quanta.{Quanta}
 use Rattle.clock.specs.declared.Reach.{Reach}
 use Rattle.clock.specs.declared.Reach.the-variants.{Past, Ahead}
 use Rattle.frame.specs.declared.Grant.{Grant}
-use Rattle.box_light.specs.Light.{atRest, randomly}
+use Rattle.box_light.specs.Light.{lightIn, resting, atRest, randomly}
 use Rattle.box_light.specs.declared.Light.{Light}
-use Rattle.box_light.specs.declared.Light.the-variants.{Rest, Before}
+use Rattle.box_light.specs.declared.Phase.the-variants.{Before}
 use Rattle.box_registration.specs.Registration.{isRegistering}
 use Rattle.box_processes.specs.Parts.{withLight}
 use Rattle.box_processes.specs.declared.Processes.{Processes}
@@ -22,9 +22,9 @@ randomFor own random length sync = record { 0 = cond own 0 (randomWait random (l
 
 -- R108
 abbrev pub called : Reach → Quanta → Quanta → Light
-called Past random sync = Rest
+called Past random sync = resting
 called (Ahead wait) random sync =
-    cond (eqb (wait .0) 0) (randomly random sync) (Before (record { left = wait .0 }) random sync)
+    cond (eqb (wait .0) 0) (randomly random sync) (lightIn (Before random sync) (record { left = wait .0 }))
 
 -- R106, R107
 unfoldable pub discover : Processes → Grant → Quanta → Bool → ℕ → Processes

@@ -8,6 +8,7 @@ ghost use Rattle.box_hearing.specs.Hear.{hearOf};
 ghost use Rattle.box_hearing.specs.Register.{admitted, rejected, asked, held, registerOf};
 use box_grants::GrantList;
 use box_light::Light;
+use box_light::Phase;
 use box_processes::Processes;
 use box_processes::Step;
 use box_registration::State;
@@ -84,18 +85,15 @@ fn call(way: Reach, random: Quanta, sync: Quanta) -> Light
     ensures { λ r. ⌜ r ≡ called way random sync ⌝ }
 {
     match way {
-        Reach::Past => Light::Rest,
+        Reach::Past => Light::resting(),
         Reach::Ahead(wait) => {
             let n = wait.0;
             if n == 0 {
                 return Light::randomly(random, sync);
             }
             let timer = Timer::stopped().start(wait);
-            Light::Before {
-                timer,
-                random,
-                sync,
-            }
+            let phase = Phase::Before { random, sync };
+            Light { phase, timer }
         }
     }
 }

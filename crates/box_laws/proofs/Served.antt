@@ -25,12 +25,12 @@ use Rattle.box_grants.specs.declared.Chosen.the-variants as chosen
 use Rattle.clock.specs.declared.Span.{Span}
 use Rattle.box_grants.specs.declared.GrantList.{GrantList}
 use Rattle.box_light.specs.Laws.{served-in, tick-quiet, passed-rest, passed-joins, quiet-less}
-use Rattle.box_light.specs.Light.{laserOnFor, restOf, atRest, isOn, timerOf}
+use Rattle.box_light.specs.Light.{lightIn, resting, laserOnFor, restOf, atRest, isOn}
 use Rattle.box_light.specs.Pass.{passedOf, quietOf}
 use Rattle.box_light.specs.Sound.{served, soundOf as lightSound}
 use Rattle.box_light.specs.Tick.{after, tickOf as lightTick}
 use Rattle.box_light.specs.declared.Light.{Light}
-use Rattle.box_light.specs.declared.Light.the-variants.{Rest, Due, Lit, Open}
+use Rattle.box_light.specs.declared.Phase.the-variants.{Due, Lit, Open}
 use Rattle.box_light.specs.declared.LightTicked.{LightTicked}
 use Rattle.box_registration.specs.Registration.{isRegistered}
 use Rattle.box_registration.specs.Tick.{tickReport, tickWatchdog, tickIn, tickOf as registrationTick}
@@ -144,23 +144,23 @@ module _ (w : ℕ) (b : FloorBox) (o : Lasts (suc w) b) where
   passes-one h k = left-as _ (tick-quiet (p .light) k) (p .list) (passed-rest (p .light) 1 ∙ h) refl (on-time .list)
 
   -- the last one
-  rung : (l : Light) → p .light ≡ l → timerOf l .left ≡ 1 → lightTick (p .light) ≡ after l
+  rung : (l : Light) → p .light ≡ l → l .timer .left ≡ 1 → lightTick (p .light) ≡ after (l .phase)
   unfolding lightTick
-  rung l e h = rw (e, ticked-rings (timerOf l) h)
+  rung l e h = rw (e, ticked-rings (l .timer) h)
 
-  due-ends : (t : Timer) (e : Span) (sync : Quanta) → p .light ≡ Due t e sync → t .left ≡ 1
-      → Leaves w (Lit (laserOnFor sync) (e .length) sync) (packed (remove e (listOf (p .list)))) b (tickOf b .next)
+  due-ends : (t : Timer) (e : Span) (sync : Quanta) → p .light ≡ lightIn (Due e sync) t → t .left ≡ 1
+      → Leaves w (lightIn (Lit (e .length) sync) (laserOnFor sync)) (packed (remove e (listOf (p .list)))) b (tickOf b .next)
   unfolding lightUp
   due-ends t e sync is h =
-      left-as _ (rung (Due t e sync) is h) (packed (remove e (listOf (p .list)))) refl refl
+      left-as _ (rung (lightIn (Due e sync) t) is h) (packed (remove e (listOf (p .list)))) refl refl
       (ap (λ (s : GrantList). packed (remove e (listOf s))) (on-time .list))
 
-  lit-ends : (t : Timer) (length sync : Quanta) → p .light ≡ Lit t length sync → t .left ≡ 1
-      → Leaves w (Open (restOf length sync)) (p .list) b (tickOf b .next)
-  lit-ends t length sync is h = left-as _ (rung (Lit t length sync) is h) (p .list) refl refl (on-time .list)
+  lit-ends : (t : Timer) (length sync : Quanta) → p .light ≡ lightIn (Lit length sync) t → t .left ≡ 1
+      → Leaves w (lightIn Open (restOf length sync)) (p .list) b (tickOf b .next)
+  lit-ends t length sync is h = left-as _ (rung (lightIn (Lit length sync) t) is h) (p .list) refl refl (on-time .list)
 
-  open-ends : (t : Timer) → p .light ≡ Open t → t .left ≡ 1 → tickOf b .next .processes ≡ activate (withLight q Rest)
-  open-ends t is h = shone-is _ (rung (Open t) is h)
+  open-ends : (t : Timer) → p .light ≡ lightIn Open t → t .left ≡ 1 → tickOf b .next .processes ≡ activate (withLight q resting)
+  open-ends t is h = shone-is _ (rung (lightIn Open t) is h)
 
 -- SEVERAL TICKS
 ticks-last : (k : ℕ) (b : FloorBox) → ticksOn (suc k) b ≡ tickOf (ticksOn k b) .next
@@ -178,14 +178,18 @@ ticks-join (suc j) k b =
 weaker : (v w : ℕ) (b : FloorBox) → w ≤ v → Lasts v b → Lasts w b
 weaker v w b h o = record { reached = o .reached; state = o .state; watchdog = omega (arith, o .watchdog) }
 
+none-passed : (l : Light) → passedOf l 0 ≡ l
+unfolding passedOf
+none-passed l = rw (passed-none (l .timer))
+
 -- a phase that is not at rest, j ticks on of those before its timer's last
-along : (j w : ℕ) (b : FloorBox) (l : Light) → passedOf l 0 ≡ l → b .processes .light ≡ l → atRest l ≡ false → j ≤ quietOf l → Lasts (j + w) b
+along : (j w : ℕ) (b : FloorBox) (l : Light) → b .processes .light ≡ l → atRest l ≡ false → j ≤ quietOf l → Lasts (j + w) b
     → Leaves w (passedOf l j) (b .processes .list) b (ticksOn j b)
-along zero w b l s e h q o = record { lasts = weaker (0 + w) w b (omega arith) o; sync = refl; list = refl; light = e ∙ sym s }
-along (suc j) w b l s e h q o =
+along zero w b l e h q o = record { lasts = weaker (0 + w) w b (omega arith) o; sync = refl; list = refl; light = e ∙ sym (none-passed l) }
+along (suc j) w b l e h q o =
     let one = passes-one (j + w) b (weaker (suc j + w) (suc (j + w)) b (omega arith) o) (rw e h) (rw e (omega arith)) in
     let f = quiet-less l (omega arith) in
-    let more = along j w (tickOf b .next) (passedOf l 1) (passed-joins l 0) (one .light ∙ ap (λ (x : Light). passedOf x 1) e) (passed-rest l 1 ∙ h)
+    let more = along j w (tickOf b .next) (passedOf l 1) (one .light ∙ ap (λ (x : Light). passedOf x 1) e) (passed-rest l 1 ∙ h)
     (omega arith) (one .lasts) in
     record { lasts = more .lasts; sync = more .sync ∙ one .sync; list = more .list ∙ one .list; light = more .light ∙ passed-joins l j }
 
@@ -194,7 +198,7 @@ record Ended (s : GrantList) (b c : FloorBox) : Type 0 where
   rests : Processes
   is : c .processes ≡ activate rests
   list : rests .list ≡ s
-  light : rests .light ≡ Rest
+  light : rests .light ≡ resting
   state : rests .registration .state ≡ Registered
   sync : rests .registration .sync ≡ b .processes .registration .sync
 
@@ -204,19 +208,6 @@ then f g = record { lasts = g .lasts; sync = g .sync ∙ f .sync; list = g .list
 
 listed : {w : ℕ} {l : Light} {s t : GrantList} {b c : FloorBox} → s ≡ t → Leaves w l s b c → Leaves w l t b c
 listed e f = record { lasts = f .lasts; sync = f .sync; list = f .list ∙ e; light = f .light }
-
--- the phases that serve a grant, with no tick passed
-due-none : (t : Timer) (e : Span) (sync : Quanta) → passedOf (Due t e sync) 0 ≡ Due t e sync
-unfolding passedOf
-due-none t e sync = rw (passed-none t)
-
-lit-none : (t : Timer) (length sync : Quanta) → passedOf (Lit t length sync) 0 ≡ Lit t length sync
-unfolding passedOf
-lit-none t length sync = rw (passed-none t)
-
-open-none : (t : Timer) → passedOf (Open t) 0 ≡ Open t
-unfolding passedOf
-open-none t = rw (passed-none t)
 
 module _ (n w : ℕ) (b : FloorBox) (t : Timer) (h : t .left ≡ suc n) (o : Lasts (suc n + w) b) where
   abbrev c : FloorBox
@@ -230,38 +221,38 @@ module _ (n w : ℕ) (b : FloorBox) (t : Timer) (h : t .left ≡ suc n) (o : Las
       let q = quiet-on t (omega arith) in
       omega arith
 
-  before : (l : Light) → passedOf l 0 ≡ l → b .processes .light ≡ l → atRest l ≡ false → quietOf l ≡ n → (j : ℕ) → j ≤ n
+  before : (l : Light) → b .processes .light ≡ l → atRest l ≡ false → quietOf l ≡ n → (j : ℕ) → j ≤ n
       → Leaves (suc w) (passedOf l j) (b .processes .list) b (ticksOn j b)
-  before l s e r q j k = along j (suc w) b l s e r (omega arith) (weaker (suc n + w) (j + suc w) b (omega arith) o)
+  before l e r q j k = along j (suc w) b l e r (omega arith) (weaker (suc n + w) (j + suc w) b (omega arith) o)
 
-  module _ (e : Span) (sync : Quanta) (is : b .processes .light ≡ Due t e sync) where
-    due-on : (j : ℕ) → j ≤ n → Leaves (suc w) (passedOf (Due t e sync) j) (b .processes .list) b (ticksOn j b)
+  module _ (e : Span) (sync : Quanta) (is : b .processes .light ≡ lightIn (Due e sync) t) where
+    due-on : (j : ℕ) → j ≤ n → Leaves (suc w) (passedOf (lightIn (Due e sync) t) j) (b .processes .list) b (ticksOn j b)
     unfolding quietOf
-    due-on = before (Due t e sync) (due-none t e sync) is refl quiet-is
+    due-on = before (lightIn (Due e sync) t) is refl quiet-is
 
-    due-next : Leaves w (Lit (laserOnFor sync) (e .length) sync) (packed (remove e (listOf (b .processes .list)))) b (ticksOn (suc n) b)
+    due-next : Leaves w (lightIn (Lit (e .length) sync) (laserOnFor sync)) (packed (remove e (listOf (b .processes .list)))) b (ticksOn (suc n) b)
     unfolding passedOf
     due-next =
         let f = due-on n (omega arith) in
         let g = due-ends w c (f .lasts) (timerPassed t n) e sync (f .light) last in
         rw (ticks-last n b) (listed (ap (λ (s : GrantList). packed (remove e (listOf s))) (f .list)) (then f g))
 
-  module _ (length sync : Quanta) (is : b .processes .light ≡ Lit t length sync) where
-    lit-on : (j : ℕ) → j ≤ n → Leaves (suc w) (passedOf (Lit t length sync) j) (b .processes .list) b (ticksOn j b)
+  module _ (length sync : Quanta) (is : b .processes .light ≡ lightIn (Lit length sync) t) where
+    lit-on : (j : ℕ) → j ≤ n → Leaves (suc w) (passedOf (lightIn (Lit length sync) t) j) (b .processes .list) b (ticksOn j b)
     unfolding quietOf
-    lit-on = before (Lit t length sync) (lit-none t length sync) is refl quiet-is
+    lit-on = before (lightIn (Lit length sync) t) is refl quiet-is
 
-    lit-next : Leaves w (Open (restOf length sync)) (b .processes .list) b (ticksOn (suc n) b)
+    lit-next : Leaves w (lightIn Open (restOf length sync)) (b .processes .list) b (ticksOn (suc n) b)
     unfolding passedOf
     lit-next =
         let f = lit-on n (omega arith) in
         let g = lit-ends w c (f .lasts) (timerPassed t n) length sync (f .light) last in
         rw (ticks-last n b) (listed (f .list) (then f g))
 
-  module _ (is : b .processes .light ≡ Open t) where
-    open-on : (j : ℕ) → j ≤ n → Leaves (suc w) (passedOf (Open t) j) (b .processes .list) b (ticksOn j b)
+  module _ (is : b .processes .light ≡ lightIn Open t) where
+    open-on : (j : ℕ) → j ≤ n → Leaves (suc w) (passedOf (lightIn Open t) j) (b .processes .list) b (ticksOn j b)
     unfolding quietOf
-    open-on = before (Open t) (open-none t) is refl quiet-is
+    open-on = before (lightIn Open t) is refl quiet-is
 
     -- dark and at rest, and then activation
     open-next : Ended (b .processes .list) b (ticksOn (suc n) b)
@@ -270,7 +261,7 @@ module _ (n w : ℕ) (b : FloorBox) (t : Timer) (h : t .left ≡ suc n) (o : Las
         let f = open-on n (omega arith) in
         let u = on-time w c (f .lasts) in
         record {
-          rests = withLight (timed (c .processes) .next) Rest;
+          rests = withLight (timed (c .processes) .next) resting;
           is = rw (ticks-last n b) (open-ends w c (f .lasts) (timerPassed t n) (f .light) last);
           list = u .list ∙ f .list;
           light = refl;
@@ -280,11 +271,11 @@ module _ (n w : ℕ) (b : FloorBox) (t : Timer) (h : t .left ≡ suc n) (o : Las
 
 -- AFTER THE END
 -- nothing to choose from
-none-lit : (r : Processes) → r .light ≡ Rest → r .list ≡ packed [] → activate r .light ≡ Rest
+none-lit : (r : Processes) → r .light ≡ resting → r .list ≡ packed [] → activate r .light ≡ resting
 unfolding activate chooseOf settle
 none-lit r e l =
     rw l
-    (either (λ (x : Processes). x .light ≡ Rest) (atRest (r .light) && isRegistered (r .registration .state)) _ _ (λ _. e) (λ _. e))
+    (either (λ (x : Processes). x .light ≡ resting) (atRest (r .light) && isRegistered (r .registration .state)) _ _ (λ _. e) (λ _. e))
 
 -- one that starts now
 now-ahead : (now start : ℕ) → distance now start ≡ pos 0 → (isPast now start ≡ false) × (reach now start ≡ Ahead (record { 0 = 0 }))
@@ -296,9 +287,9 @@ pub chosen-one : (now need : ℕ) (s : GrantList) (x : Span) → listOf s ≡ x 
 unfolding chooseOf settle
 chosen-one now need s x e a f = rw (e, a, le-leb need (x .length .0) f)
 
-one-lit : (r : Processes) (x : Span) → r .light ≡ Rest → r .registration .state ≡ Registered → listOf (r .list) ≡ x ∷ []
+one-lit : (r : Processes) (x : Span) → r .light ≡ resting → r .registration .state ≡ Registered → listOf (r .list) ≡ x ∷ []
     → distance (r .count .0) (x .start .0) ≡ pos 0 → needed (r .registration .sync .0) ≤ x .length .0
-    → activate r .light ≡ Lit (laserOnFor (r .registration .sync)) (x .length) (r .registration .sync)
+    → activate r .light ≡ lightIn (Lit (x .length) (r .registration .sync)) (laserOnFor (r .registration .sync))
 unfolding activate begin lightUp
 one-lit r x e i l d f =
     let a = now-ahead (r .count .0) (x .start .0) d in
@@ -317,7 +308,7 @@ sure d e sync b u =
     let p = b .processes in
     let s = run-holds (u .reached) .processes .sound in
     let t : Timer = record { left = d } in
-    let l : lightSound (Due t e sync) (p .list) ≡ true = rw (u .due) at (s .light) in
+    let l : lightSound (lightIn (Due e sync) t) (p .list) ≡ true = rw (u .due) at (s .light) in
     let x = and-eq-true-iff (runs t (2 ^ 31 - 1) && holds e (listOf (p .list))) (served (e .length) sync) .0 l in
     let y = and-eq-true-iff (runs t (2 ^ 31 - 1)) (holds e (listOf (p .list))) .0 (x .0) in
     let f = served-in (e .length) sync (x .1) in
@@ -337,16 +328,16 @@ from j k b h =
     rw z at (ticks-join j (k - j) b)
 
 -- the laser k ticks on in each phase
-due-dark : (t : Timer) (e : Span) (sync : Quanta) (j : ℕ) → (isOn (passedOf (Due t e sync) j) ≡ false) × (remaining (passedOf (Due t e sync) j) ≡ 0)
+due-dark : (t : Timer) (e : Span) (sync : Quanta) (j : ℕ) → (isOn (passedOf (lightIn (Due e sync) t) j) ≡ false) × (remaining (passedOf (lightIn (Due e sync) t) j) ≡ 0)
 unfolding passedOf
 due-dark t e sync j = (refl, refl)
 
 lit-closed : (t : Timer) (length sync : Quanta) (j : ℕ)
-    → (isOn (passedOf (Lit t length sync) j) ≡ true) × (remaining (passedOf (Lit t length sync) j) ≡ 0)
+    → (isOn (passedOf (lightIn (Lit length sync) t) j) ≡ true) × (remaining (passedOf (lightIn (Lit length sync) t) j) ≡ 0)
 unfolding passedOf
 lit-closed t length sync j = (refl, refl)
 
-open-left : (t : Timer) (j : ℕ) → (isOn (passedOf (Open t) j) ≡ true) × (remaining (passedOf (Open t) j) ≡ t .left - j)
+open-left : (t : Timer) (j : ℕ) → (isOn (passedOf (lightIn Open t) j) ≡ true) × (remaining (passedOf (lightIn Open t) j) ≡ t .left - j)
 unfolding passedOf
 open-left t j = (refl, passed-left t j)
 
@@ -371,7 +362,7 @@ module _ (d : ℕ) (e : Span) (sync : Quanta) (b : FloorBox) (u : Waits (suc d) 
   abbrev left : GrantList
   left = packed (remove e (listOf (b .processes .list)))
 
-  lit : Leaves n (Lit (laserOnFor sync) (e .length) sync) left b (ticksOn (suc d) b)
+  lit : Leaves n (lightIn (Lit (e .length) sync) (laserOnFor sync)) left b (ticksOn (suc d) b)
   lit = due-next d n b (record { left = suc d }) refl (record { reached = u .reached; state = f .state; watchdog = u .lasts }) e sync (u .due)
 
   abbrev b₁ : FloorBox
@@ -383,7 +374,7 @@ module _ (d : ℕ) (e : Span) (sync : Quanta) (b : FloorBox) (u : Waits (suc d) 
   lasts-on : Lasts (suc (settling - 1) + sending) b₁
   lasts-on = weaker n (suc (settling - 1) + sending) b₁ (omega (arith, f .long)) (lit .lasts)
 
-  opens : Leaves sending (Open (restOf (e .length) sync)) (b₁ .processes .list) b₁ (ticksOn settling b₁)
+  opens : Leaves sending (lightIn Open (restOf (e .length) sync)) (b₁ .processes .list) b₁ (ticksOn settling b₁)
   opens =
       let z : suc (settling - 1) ≡ settling = omega arith in
       rw z at (lit-next (settling - 1) sending b₁ (laserOnFor sync) settled lasts-on (e .length) sync (lit .light))
@@ -403,17 +394,17 @@ module _ (d : ℕ) (e : Span) (sync : Quanta) (b : FloorBox) (u : Waits (suc d) 
       rw z at (open-next (sending - 1) 0 b₂ (restOf (e .length) sync) rested lasts-open (opens .light))
 
   -- the light k ticks on
-  waiting-at : (k : ℕ) → k < suc d → lightAt k b ≡ passedOf (Due (record { left = suc d }) e sync) k
+  waiting-at : (k : ℕ) → k < suc d → lightAt k b ≡ passedOf (lightIn (Due e sync) (record { left = suc d })) k
   waiting-at k h =
       due-on d n b (record { left = suc d }) refl (record { reached = u .reached; state = f .state; watchdog = u .lasts }) e sync (u .due) k (omega arith)
       .light
 
-  settling-at : (k : ℕ) → suc d ≤ k → k < suc d + settling → lightAt k b ≡ passedOf (Lit (laserOnFor sync) (e .length) sync) (k - suc d)
+  settling-at : (k : ℕ) → suc d ≤ k → k < suc d + settling → lightAt k b ≡ passedOf (lightIn (Lit (e .length) sync) (laserOnFor sync)) (k - suc d)
   settling-at k h l =
       ap light (from (suc d) k b h)
       ∙ lit-on (settling - 1) sending b₁ (laserOnFor sync) settled lasts-on (e .length) sync (lit .light) (k - suc d) (omega arith) .light
 
-  sending-at : (k : ℕ) → suc d + settling ≤ k → k < suc d + n → lightAt k b ≡ passedOf (Open (restOf (e .length) sync)) (k - suc d - settling)
+  sending-at : (k : ℕ) → suc d + settling ≤ k → k < suc d + n → lightAt k b ≡ passedOf (lightIn Open (restOf (e .length) sync)) (k - suc d - settling)
   sending-at k h l =
       ap light (from (suc d) k b (omega arith) ∙ from settling (k - suc d) b₁ (omega arith))
       ∙ open-on (sending - 1) 0 b₂ (restOf (e .length) sync) rested lasts-open (opens .light) (k - suc d - settling) (omega arith) .light
@@ -471,7 +462,7 @@ module _ (d : ℕ) (e : Span) (sync : Quanta) (b : FloorBox) (u : Waits (suc d) 
             end-light
             ∙ one-lit (ended .rests) x (ended .light) (ended .state)
             (ap listOf end-list ∙ packed-list (remove e (listOf (b .processes .list))) room ∙ h) (rw end-count at c) (rw end-sync m)
-            ∙ ap (λ (q : Quanta). Lit (laserOnFor q) (x .length) q) end-sync;
+            ∙ ap (λ (q : Quanta). lightIn (Lit (x .length) q) (laserOnFor q)) end-sync;
       }
 
 pub grant-served : GrantServed

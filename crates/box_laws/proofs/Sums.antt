@@ -24,8 +24,8 @@ use Rattle.box_grants.specs.Listed.{listOf, packed, chooseOf}
 use Rattle.box_grants.specs.declared.Chosen.the-variants as chosen
 use Rattle.clock.specs.declared.Span.{Span}
 use Rattle.box_grants.specs.declared.GrantList.{GrantList}
-use Rattle.box_light.specs.Light.{laserOnFor}
-use Rattle.box_light.specs.declared.Light.the-variants.{Rest, Due, Lit}
+use Rattle.box_light.specs.Light.{lightIn, resting, laserOnFor}
+use Rattle.box_light.specs.declared.Phase.the-variants.{Due, Lit}
 use Rattle.box_registration.specs.Registration.{heard}
 use Rattle.box_registration.specs.declared.State.the-variants.{Registered}
 use Rattle.box_processes.specs.Parts.{withCount}
@@ -65,10 +65,10 @@ first = record { start = record { 0 = 1100 }; length = record { 0 = 200 } }
 
 -- THE MESSAGE
 -- what activation waits for
-waits-for : (r : Processes) (x : Span) (l : List Span) (w : ℕ) → r .light ≡ Rest → r .registration .state ≡ Registered
+waits-for : (r : Processes) (x : Span) (l : List Span) (w : ℕ) → r .light ≡ resting → r .registration .state ≡ Registered
     → chooseOf (r .count .0) (needed (r .registration .sync .0)) (r .list) ≡ record { list = packed l; chosen = chosen.Due x }
     → reach (r .count .0) (x .start .0) ≡ Ahead (record { 0 = w }) → w ≢ 0
-    → (activate r .light ≡ Due (record { left = w }) x (r .registration .sync)) × (activate r .list ≡ packed l)
+    → (activate r .light ≡ lightIn (Due x (r .registration .sync)) (record { left = w })) × (activate r .list ≡ packed l)
 unfolding activate begin
 waits-for r x l w e i c a d = rw (e, i, c, a, ne-eqb w 0 d) (refl, refl)
 
@@ -92,7 +92,7 @@ module _ (b : FloorBox) (m : Message) (random : ℕ) (grants : Grants) (u : Hear
       ap (λ (x : Answer). x .next .processes) (call-accepted (hear m random) b (u .accepted) .answered)
       ∙ rw (u .body, u .count)
 
-  gate-leaves : (r .light ≡ Rest) × (r .count ≡ record { 0 = 1000 }) × (r .registration ≡ heard (b .processes .registration))
+  gate-leaves : (r .light ≡ resting) × (r .count ≡ record { 0 = 1000 }) × (r .registration ≡ heard (b .processes .registration))
   unfolding gated
   gate-leaves = rw (u .registered) (u .rest, refl, refl)
 
@@ -109,13 +109,13 @@ module _ (b : FloorBox) (m : Message) (random : ℕ) (grants : Grants) (u : Hear
 
   -- 100 ticks before its first grant, with these in its list
   module _ (l : List Span) (c : chooseOf 1000 (needed 10) (r .list) ≡ record { list = packed l; chosen = chosen.Due first }) where
-    chooses : (activate r .light ≡ Due (record { left = 100 }) first (record { 0 = 10 })) × (activate r .list ≡ packed l)
+    chooses : (activate r .light ≡ lightIn (Due first (record { 0 = 10 })) (record { left = 100 })) × (activate r .list ≡ packed l)
     chooses =
         let g = gate-leaves in
         let i : r .registration .state ≡ Registered = rw (g .2) (u .registered) in
         let s : r .registration .sync ≡ record { 0 = 10 } = rw (g .2) (u .sync) in
         let w = waits-for r first l 100 (g .0) i (rw (g .1, s) c) (rw (g .1) (reach-near 1000 1100 (omega arith))) (omega arith) in
-        (w .0 ∙ ap (λ (q : Quanta). Due (record { left = 100 }) first q) s, w .1)
+        (w .0 ∙ ap (λ (q : Quanta). lightIn (Due first q) (record { left = 100 })) s, w .1)
 
     waits : Waits 100 first (record { 0 = 10 }) (hearOf b m random .next)
     waits =
@@ -158,4 +158,4 @@ sum-twelve b m random length force other f u =
     let sync = after-sync b m random g u in
     let lit =
     s .next x (rw (held b m random g u (first ∷ x ∷ []) c (omega arith))) (rw there (distance-near 1300 1300 (omega arith))) (rw sync f) in
-    (s .lights, lit ∙ ap (λ (q : Quanta). Lit (laserOnFor q) (record { 0 = length }) q) sync)
+    (s .lights, lit ∙ ap (λ (q : Quanta). lightIn (Lit (record { 0 = length }) q) (laserOnFor q)) sync)

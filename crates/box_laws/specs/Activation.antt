@@ -19,9 +19,9 @@ use Rattle.box_grants.specs.Listed.{listOf, packed, chooseOf}
 use Rattle.box_grants.specs.declared.Chosen.{Chosen}
 use Rattle.box_grants.specs.declared.Chosen.the-variants.{Nothing, Due}
 use Rattle.box_light.specs.Laws.{served-of, rest-sound, due-sound, lit-sound}
-use Rattle.box_light.specs.Light.{atRest}
+use Rattle.box_light.specs.Light.{lightIn, atRest}
 use Rattle.box_light.specs.Sound.{served}
-use Rattle.box_light.specs.declared.Light.{Light}
+use Rattle.box_light.specs.declared.Phase.the-variants as Phase
 use Rattle.box_registration.specs.Registration.{isRegistered}
 use Rattle.box_registration.specs.declared.State.the-variants.{Registered}
 use Rattle.box_processes.specs.Parts.{withList}
@@ -60,7 +60,7 @@ module _ (p : Processes) (s : Sound p) where
     begin-keeps : (wait : Quanta) → wait .0 < 2 ^ 31 → Sound (begin p e sync wait)
     unfolding begin
     begin-keeps wait k =
-        let due = Light.Due (record { left = wait .0 }) e sync in
+        let due = lightIn (Phase.Due e sync) (record { left = wait .0 }) in
         either Sound (eqb (wait .0) 0) _ _ (λ _. light-up-keeps)
         (λ t.
         let some : wait .0 ≢ 0 = eqb-false (wait .0) 0 t in
@@ -86,6 +86,6 @@ activate-keeps p s =
     (λ t.
     let both = and-eq-true-iff (atRest (p .light)) (isRegistered (p .registration .state)) .0 t in
     let listed =
-    relisted p s (c .list) (choose-sound now need (p .list) (s .list)) (choose-entries now need (p .list)) (both .1) (rest-sound (c .list) (p .light) (both .0)) in
+    relisted p s (c .list) (choose-sound now need (p .list) (s .list)) (choose-entries now need (p .list)) (both .1) (rest-sound (c .list) (p .light) (p .list) (both .0) (s .light)) in
     serve-keeps (c .chosen) (withList p (c .list)) listed (choose-fulfils now need (p .list) (s .list)))
     (λ _. s)

@@ -12,7 +12,6 @@ use Rattle.clock.specs.Timers.{ticked}
 use Rattle.clock.specs.declared.Quanta.{Quanta}
 use Rattle.clock.specs.declared.Reach.{Reach}
 use Rattle.clock.specs.declared.Reach.the-variants.{Past, Ahead}
-use Rattle.clock.specs.declared.Timer.{Timer}
 use Rattle.clock.specs.declared.Span.{Span}
 use Rattle.frame.specs.Layout.{listed}
 use Rattle.frame.specs.declared.Body.{Body}
@@ -23,11 +22,12 @@ use Rattle.frame.specs.declared.RegisterFlag.the-variants.{Reregister, Deregist
 use Rattle.box_grants.specs.Listed.{chooseOf}
 use Rattle.box_grants.specs.declared.Chosen.{Chosen}
 use Rattle.box_grants.specs.declared.Chosen.the-variants as chosen
-use Rattle.box_light.specs.Light.{randomly, atRest, timerOf, withTimer}
+use Rattle.box_light.specs.Light.{randomly, atRest}
 use Rattle.box_light.specs.Tick.{after, tickOf as lightTick}
 use Rattle.box_light.specs.declared.Beam.{Beam}
 use Rattle.box_light.specs.declared.Light.{Light}
-use Rattle.box_light.specs.declared.Light.the-variants.{Rest, Before, Random, Warming, Asking, Due, Lit, Open}
+use Rattle.box_light.specs.declared.Phase.{Phase}
+use Rattle.box_light.specs.declared.Phase.the-variants.{Rest, Before, Random, Warming, Asking, Due, Lit, Open}
 use Rattle.box_light.specs.declared.LightTicked.{LightTicked}
 use Rattle.box_registration.specs.Registration.{isRegistered, isRegistering}
 use Rattle.box_registration.specs.Tick.{tickOf as registrationTick}
@@ -47,40 +47,40 @@ use Rattle.box_hearing.specs.Register.{registerOf}
 use Rattle.box_laws.specs.Tick.{Says, bell-says}
 
 -- a window is on its way while it is waited for, or its laser on
-abbrev pub Awaited : Light → State → Type 0
+abbrev pub Awaited : Phase → State → Type 0
 Awaited Rest s = Unit {0}
-Awaited (Before t random sync) s = isRegistering s ≡ true
-Awaited (Random t sync) s = isRegistering s ≡ true
-Awaited (Warming t) s = isRegistering s ≡ true
-Awaited (Asking t) s = Unit {0}
-Awaited (Due t entry sync) s = Unit {0}
-Awaited (Lit t length sync) s = Unit {0}
-Awaited (Open t) s = Unit {0}
+Awaited (Before random sync) s = isRegistering s ≡ true
+Awaited (Random sync) s = isRegistering s ≡ true
+Awaited Warming s = isRegistering s ≡ true
+Awaited Asking s = Unit {0}
+Awaited (Due entry sync) s = Unit {0}
+Awaited (Lit length sync) s = Unit {0}
+Awaited Open s = Unit {0}
 
 -- of the box
 abbrev pub Calm : Processes → Type 0
-Calm p = Awaited (p .light) (p .registration .state)
+Calm p = Awaited (p .light .phase) (p .registration .state)
 
 -- in REGISTERING any phase may be, and where another state was none is on its way
-pub any-awaited : (l : Light) (s : State) → isRegistering s ≡ true → Awaited l s
+pub any-awaited : (p : Phase) (s : State) → isRegistering s ≡ true → Awaited p s
 any-awaited Rest s h = tt
-any-awaited (Before t random sync) s h = h
-any-awaited (Random t sync) s h = h
-any-awaited (Warming t) s h = h
-any-awaited (Asking t) s h = tt
-any-awaited (Due t entry sync) s h = tt
-any-awaited (Lit t length sync) s h = tt
-any-awaited (Open t) s h = tt
+any-awaited (Before random sync) s h = h
+any-awaited (Random sync) s h = h
+any-awaited Warming s h = h
+any-awaited Asking s h = tt
+any-awaited (Due entry sync) s h = tt
+any-awaited (Lit length sync) s h = tt
+any-awaited Open s h = tt
 
-none-awaited : (l : Light) (s t : State) → isRegistering s ≡ false → Awaited l s → Awaited l t
+none-awaited : (p : Phase) (s t : State) → isRegistering s ≡ false → Awaited p s → Awaited p t
 none-awaited Rest s t e h = tt
-none-awaited (Before u random sync) s t e h = absurd (false≢true (sym e ∙ h))
-none-awaited (Random u sync) s t e h = absurd (false≢true (sym e ∙ h))
-none-awaited (Warming u) s t e h = absurd (false≢true (sym e ∙ h))
-none-awaited (Asking u) s t e h = tt
-none-awaited (Due u entry sync) s t e h = tt
-none-awaited (Lit u length sync) s t e h = tt
-none-awaited (Open u) s t e h = tt
+none-awaited (Before random sync) s t e h = absurd (false≢true (sym e ∙ h))
+none-awaited (Random sync) s t e h = absurd (false≢true (sym e ∙ h))
+none-awaited Warming s t e h = absurd (false≢true (sym e ∙ h))
+none-awaited Asking s t e h = tt
+none-awaited (Due entry sync) s t e h = tt
+none-awaited (Lit length sync) s t e h = tt
+none-awaited Open s t e h = tt
 
 -- activation waits for grants alone
 begin-calm : (p : Processes) (e : Span) (sync wait : Quanta) → Calm (begin p e sync wait)
@@ -105,7 +105,7 @@ activate-calm p h =
 ring-calm : (bell : Bell) (p : Processes) (r : Registration) → Calm p → Says bell (p .registration .state) (r .state)
     → Calm (ring bell (withRegistration p r) .next)
 ring-calm Bell.Quiet p r h e = rw e h
-ring-calm Bell.Retry p r h e = none-awaited (p .light) (p .registration .state) (r .state) (rw (e .0)) h
+ring-calm Bell.Retry p r h e = none-awaited (p .light .phase) (p .registration .state) (r .state) (rw (e .0)) h
 ring-calm Bell.Lost p r h e = tt
 ring-calm Bell.Report p r h e = rw e h
 
@@ -116,41 +116,30 @@ timed-calm p h =
     ring-calm (t .bell) (withCount p (nextOf (p .count))) (t .registration) h (bell-says (p .registration))
 
 -- a tick of the transmitter: a window that opens was on its way
-abbrev pub Brings : Beam → Light → State → Type 0
-Brings Beam.Quiet l s = Awaited l s
-Brings Beam.Window l s = (isRegistering s ≡ true) × Awaited l RegisterReq
-Brings (Beam.Start entry sync) l s = Unit {0}
-Brings Beam.Opened l s = Awaited l s
-Brings Beam.Closed l s = Awaited l s
+abbrev pub Brings : Beam → Phase → State → Type 0
+Brings Beam.Quiet p s = Awaited p s
+Brings Beam.Window p s = (isRegistering s ≡ true) × Awaited p RegisterReq
+Brings (Beam.Start entry sync) p s = Unit {0}
+Brings Beam.Opened p s = Awaited p s
+Brings Beam.Closed p s = Awaited p s
 
-after-brings : (l : Light) (s : State) → Awaited l s → Brings (after l .beam) (after l .light) s
+after-brings : (p : Phase) (s : State) → Awaited p s → Brings (after p .beam) (after p .light .phase) s
 unfolding randomly
 after-brings Rest s h = tt
-after-brings (Before t random sync) s h = either (λ (l : Light). Awaited l s) (eqb (random .0) 0) _ _ (λ _. h) (λ _. h)
-after-brings (Random t sync) s h = h
-after-brings (Warming t) s h = (h, tt)
-after-brings (Asking t) s h = tt
-after-brings (Due t entry sync) s h = tt
-after-brings (Lit t length sync) s h = tt
-after-brings (Open t) s h = tt
+after-brings (Before random sync) s h = either (λ (l : Light). Awaited (l .phase) s) (eqb (random .0) 0) _ _ (λ _. h) (λ _. h)
+after-brings (Random sync) s h = h
+after-brings Warming s h = (h, tt)
+after-brings Asking s h = tt
+after-brings (Due entry sync) s h = tt
+after-brings (Lit length sync) s h = tt
+after-brings Open s h = tt
 
-timer-awaited : (l : Light) (u : Timer) (s : State) → Awaited l s → Awaited (withTimer l u) s
-timer-awaited Rest u s h = tt
-timer-awaited (Before t random sync) u s h = h
-timer-awaited (Random t sync) u s h = h
-timer-awaited (Warming t) u s h = h
-timer-awaited (Asking t) u s h = tt
-timer-awaited (Due t entry sync) u s h = tt
-timer-awaited (Lit t length sync) u s h = tt
-timer-awaited (Open t) u s h = tt
-
-pub tick-brings : (l : Light) (s : State) → Awaited l s → Brings (lightTick l .beam) (lightTick l .light) s
+pub tick-brings : (l : Light) (s : State) → Awaited (l .phase) s → Brings (lightTick l .beam) (lightTick l .light .phase) s
 unfolding lightTick
 tick-brings l s h =
-    let t = ticked (timerOf l) in
-    either (λ (x : LightTicked). Brings (x .beam) (x .light) s) (t .rang) _ _ (λ _. after-brings l s h) (λ _. timer-awaited l (t .timer) s h)
+    either (λ (x : LightTicked). Brings (x .beam) (x .light .phase) s) (ticked (l .timer) .rang) _ _ (λ _. after-brings (l .phase) s h) (λ _. h)
 
-shine-calm : (beam : Beam) (p : Processes) → Brings beam (p .light) (p .registration .state)
+shine-calm : (beam : Beam) (p : Processes) → Brings beam (p .light .phase) (p .registration .state)
     → (shine beam p .ok ≡ true) × Calm (shine beam p .next)
 unfolding lightUp
 shine-calm Beam.Quiet p h = (refl, h)
@@ -183,16 +172,16 @@ discover-calm p grant sync own random h =
     either Calm (r && x && fits) _ _
     (λ t.
     let l = called (reach (p .count .0) (grant .start .0)) (randomFor own random (grant .length) sync) sync in
-    any-awaited l (p .registration .state) (and-eq-true-iff r x .0 (and-eq-true-iff (r && x) fits .0 t .0) .0))
+    any-awaited (l .phase) (p .registration .state) (and-eq-true-iff r x .0 (and-eq-true-iff (r && x) fits .0 t .0) .0))
     (λ _. h)
 
 register-calm : (t : State) (flag : RegisterFlag) (p : Processes) (port : ℕ) (sync : Quanta) → p .registration .state ≡ t → Calm p
     → Calm (registerOf t flag p port sync .next)
-register-calm RegisterReq Ack p port sync e h = none-awaited (p .light) (p .registration .state) Registered (rw e) h
+register-calm RegisterReq Ack p port sync e h = none-awaited (p .light .phase) (p .registration .state) Registered (rw e) h
 register-calm RegisterReq Nack p port sync e h = tt
 register-calm RegisterReq Reregister p port sync e h = h
 register-calm RegisterReq Deregister p port sync e h = h
-register-calm Registered Reregister p port sync e h = none-awaited (p .light) (p .registration .state) Registered (rw e) h
+register-calm Registered Reregister p port sync e h = none-awaited (p .light .phase) (p .registration .state) Registered (rw e) h
 register-calm Registered Deregister p port sync e h = tt
 register-calm Registered Ack p port sync e h = h
 register-calm Registered Nack p port sync e h = h

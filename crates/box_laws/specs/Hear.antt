@@ -23,7 +23,7 @@ use Rattle.frame.specs.declared.RegisterFlag.{RegisterFlag}
 use Rattle.frame.specs.declared.RegisterFlag.the-variants.{Reregister, Deregister, Ack, Nack}
 use Rattle.frame_range.specs.Fits.{fitsGrant, fitsAll, fitsBody}
 use Rattle.box_grants.specs.declared.GrantList.{GrantList}
-use Rattle.box_light.specs.Laws.{fits-of, random-fits, before-sound, randomly-sound, sound-list}
+use Rattle.box_light.specs.Laws.{fits-of, random-fits, resting-sound, before-sound, randomly-sound, sound-list}
 use Rattle.box_light.specs.Light.{atRest}
 use Rattle.box_light.specs.Sound.{waitFits, soundOf as lightSound}
 use Rattle.box_light.specs.declared.Light.{Light}
@@ -57,7 +57,7 @@ gated-keeps p gs s h =
 -- a discovery GATE
 called-sound : (r : Reach) (l : GrantList) (random sync : Quanta) → reachInRange r ≡ true → waitFits (random .0) sync ≡ true
     → lightSound (called r random sync) l ≡ true
-called-sound Past l random sync h f = refl
+called-sound Past l random sync h f = resting-sound l
 called-sound (Ahead wait) l random sync h f =
     either (λ (x : Light). lightSound x l ≡ true) (eqb (wait .0) 0) _ _ (λ _. randomly-sound l random sync f)
     (λ t.

@@ -11,9 +11,9 @@ use Rattle.clock.specs.declared.Quanta.{Quanta}
 use Rattle.box_grants.specs.Activation.{remove}
 use Rattle.box_grants.specs.Listed.{listOf}
 use Rattle.clock.specs.declared.Span.{Span}
-use Rattle.box_light.specs.Light.{laserOnFor, isOn}
+use Rattle.box_light.specs.Light.{lightIn, resting, laserOnFor, isOn}
 use Rattle.box_light.specs.declared.Light.{Light}
-use Rattle.box_light.specs.declared.Light.the-variants.{Rest, Due, Lit}
+use Rattle.box_light.specs.declared.Phase.the-variants.{Due, Lit}
 use Rattle.box_calls.specs.Box.{tickOf}
 use Rattle.box_calls.specs.Send.{remaining}
 use Rattle.box_calls.specs.declared.FloorBox.{FloorBox}
@@ -37,7 +37,7 @@ pub record Lights (d n sync : ℕ) (b : FloorBox) : Type 0 where
 -- a box that waits d ticks for the grant e, and whose watchdog lasts to its end
 pub record Waits (d : ℕ) (e : Span) (sync : Quanta) (b : FloorBox) : Type 0 where
   pub reached : Run b
-  pub due : b .processes .light ≡ Due (record { left = d }) e sync
+  pub due : b .processes .light ≡ lightIn (Due e sync) (record { left = d })
   pub lasts : d + e .length .0 < b .processes .registration .watchdog .left
 
 module _ (d : ℕ) (e : Span) (sync : Quanta) (b : FloorBox) where
@@ -45,12 +45,12 @@ module _ (d : ℕ) (e : Span) (sync : Quanta) (b : FloorBox) where
     -- whatever else it holds
     pub lights : Lights d (e .length .0) (sync .0) b
     -- where it ends it is dark if the box holds no other
-    pub ends : remove e (listOf (b .processes .list)) ≡ [] → lightAt (d + e .length .0) b ≡ Rest
+    pub ends : remove e (listOf (b .processes .list)) ≡ [] → lightAt (d + e .length .0) b ≡ resting
     -- and if it holds one other, which starts there, that one is lit in the same call
     pub next : (x : Span) → remove e (listOf (b .processes .list)) ≡ x ∷ []
         → distance (ticksOn (d + e .length .0) b .processes .count .0) (x .start .0) ≡ pos 0
         → needed (b .processes .registration .sync .0) ≤ x .length .0
-        → lightAt (d + e .length .0) b ≡ Lit (laserOnFor (b .processes .registration .sync)) (x .length) (b .processes .registration .sync)
+        → lightAt (d + e .length .0) b ≡ lightIn (Lit (x .length) (b .processes .registration .sync)) (laserOnFor (b .processes .registration .sync))
 
 unfoldable pub GrantServed : Type 0
 GrantServed = (d : ℕ) (e : Span) (sync : Quanta) (b : FloorBox) → Waits d e sync b → Serves d e sync b

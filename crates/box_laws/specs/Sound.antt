@@ -10,6 +10,7 @@ use Rattle.clock.specs.declared.Count.{Count}
 use Rattle.box_grants.specs.Keeps.{packed-entries, packed-sound}
 use Rattle.box_grants.specs.Sound.{soundOf as listSound}
 use Rattle.box_grants.specs.declared.GrantList.{GrantList}
+use Rattle.box_light.specs.Laws.{resting-sound}
 use Rattle.box_light.specs.Sound.{soundOf as lightSound}
 use Rattle.box_light.specs.declared.Light.{Light}
 use Rattle.box_registration.specs.Laws.{waiting-sound, registering-sound, sync-fits}
@@ -76,7 +77,7 @@ entered p h =
       registration = waiting-sound (p .registration) h;
       list = packed-sound [] refl (omega arith);
       empty = refl;
-      light = refl;
+      light = resting-sound (waiting p .list);
       rest = refl;
       places = packed-entries [] (omega arith);
     }

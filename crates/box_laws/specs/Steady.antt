@@ -36,7 +36,7 @@ step-keeps (hear m random) b s h =
 step-keeps tick b s h = tick-keeps (b .processes) s (h .0)
 
 step-calm : (c : Call) (b : FloorBox) → Calm (b .processes) → Calm (step c b .next)
-step-calm register b s = any-awaited (b .processes .light) Registering refl
+step-calm register b s = any-awaited (b .processes .light .phase) Registering refl
 step-calm deregister b s = tt
 step-calm (report sets) b s = s
 step-calm (hear m random) b s =

@@ -10,8 +10,8 @@ use Rattle.frame.specs.declared.Grants.{Grants}
 use Rattle.frame.specs.declared.Grants.the-variants.{One, Two}
 use Rattle.frame.specs.declared.Message.{Message}
 use Rattle.frame.specs.declared.Reply.the-variants.{Done}
-use Rattle.box_light.specs.Light.{laserOnFor}
-use Rattle.box_light.specs.declared.Light.the-variants.{Rest, Lit}
+use Rattle.box_light.specs.Light.{lightIn, resting, laserOnFor}
+use Rattle.box_light.specs.declared.Phase.the-variants.{Lit}
 use Rattle.box_registration.specs.declared.State.the-variants.{Registered}
 use Rattle.box_calls.specs.Hear.{hearOf}
 use Rattle.box_calls.specs.declared.FloorBox.{FloorBox}
@@ -23,7 +23,7 @@ pub record Hears (b : FloorBox) (m : Message) (random : ℕ) (grants : Grants) :
   pub reached : Run b
   pub registered : b .processes .registration .state ≡ Registered
   pub sync : b .processes .registration .sync ≡ record { 0 = 10 }
-  pub rest : b .processes .light ≡ Rest
+  pub rest : b .processes .light ≡ resting
   pub empty : b .processes .list .number ≡ 0
   pub count : m .timestamp ≡ record { 0 = 1000 }
   pub body : m .body ≡ Gate grants
@@ -36,7 +36,7 @@ grant start length force = record { start = record { 0 = start }; length = recor
 unfoldable pub SumEleven : Type 0
 SumEleven =
     (b : FloorBox) (m : Message) (random : ℕ) (force : Bool) → Hears b m random (One (grant 1100 200 force))
-    → Lights 100 200 10 (hearOf b m random .next) × (lightAt 300 (hearOf b m random .next) ≡ Rest)
+    → Lights 100 200 10 (hearOf b m random .next) × (lightAt 300 (hearOf b m random .next) ≡ resting)
 
 -- beside it one at 1300 that serves: lit by the tick that ends the first
 unfoldable pub SumTwelve : Type 0
@@ -44,4 +44,4 @@ SumTwelve =
     (b : FloorBox) (m : Message) (random length : ℕ) (force other : Bool) → needed 10 ≤ length
     → Hears b m random (Two (grant 1100 200 force) (grant 1300 length other))
     → Lights 100 200 10 (hearOf b m random .next)
-    × (lightAt 300 (hearOf b m random .next) ≡ Lit (laserOnFor (record { 0 = 10 })) (record { 0 = length }) (record { 0 = 10 }))
+    × (lightAt 300 (hearOf b m random .next) ≡ lightIn (Lit (record { 0 = length }) (record { 0 = 10 })) (laserOnFor (record { 0 = 10 })))

@@ -1,16 +1,18 @@
 -- Lemmas: a tick keeps the processes sound.
 -- Assumes nothing.
 use mathlib.Core.Path.{_≡_, refl}
-use mathlib.Core.Bool.{true, false≢true}
+use mathlib.Core.Bool.{true}
 use Rattle.laws.specs.Cases.{either}
 use Rattle.clock.specs.Counts.{nextOf}
+use Rattle.clock.specs.Laws.{ticked-off}
 use Rattle.clock.specs.Timers.{ticked}
-use Rattle.box_light.specs.Laws.{Begins, tick-keeps as light-keeps, tick-begins}
+use Rattle.box_grants.specs.declared.GrantList.{GrantList}
+use Rattle.box_light.specs.Laws.{rest-off, Begins, tick-keeps as light-keeps, tick-begins}
 use Rattle.box_light.specs.Light.{atRest}
+use Rattle.box_light.specs.Sound.{soundOf as lightSound}
 use Rattle.box_light.specs.Tick.{tickOf as lightTick}
 use Rattle.box_light.specs.declared.Beam.{Beam}
 use Rattle.box_light.specs.declared.Light.{Light}
-use Rattle.box_light.specs.declared.Light.the-variants.{Rest, Before, Random, Warming, Asking, Due, Lit, Open}
 use Rattle.box_registration.specs.Laws.{tick-keeps as registration-keeps, sync-fits, requesting-sound}
 use Rattle.box_registration.specs.Registration.{requesting}
 use Rattle.box_registration.specs.Sound.{soundOf as registrationSound}
@@ -74,16 +76,9 @@ timed-keeps p s =
     (registration-keeps (p .registration) (s .registration)) (bell-says (p .registration))
 
 -- a transmitter at rest stays so
-rest-stays : (l : Light) → atRest l ≡ true → atRest (lightTick l .light) ≡ true
-unfolding lightTick ticked
-rest-stays Rest h = refl
-rest-stays (Before t random sync) h = absurd (false≢true h)
-rest-stays (Random t sync) h = absurd (false≢true h)
-rest-stays (Warming t) h = absurd (false≢true h)
-rest-stays (Asking t) h = absurd (false≢true h)
-rest-stays (Due t entry sync) h = absurd (false≢true h)
-rest-stays (Lit t length sync) h = absurd (false≢true h)
-rest-stays (Open t) h = absurd (false≢true h)
+rest-stays : (l : Light) (u : GrantList) → lightSound l u ≡ true → atRest l ≡ true → atRest (lightTick l .light) ≡ true
+unfolding lightTick
+rest-stays l u h r = rw (ticked-off (l .timer) (rest-off l u r h)) r
 
 rests-stay : (s : State) (l m : Light) → (atRest l ≡ true → atRest m ≡ true) → restsIn s l ≡ true → restsIn s m ≡ true
 rests-stay Wait l m f h = f h
@@ -107,7 +102,7 @@ transmitted-keeps p s o =
     let t = lightTick (p .light) in
     let lit =
     shone p s (t .light) (light-keeps (p .list) (p .light) (s .light))
-    (rests-stay (p .registration .state) (p .light) (t .light) (rest-stays (p .light)) (s .rest)) in
+    (rests-stay (p .registration .state) (p .light) (t .light) (rest-stays (p .light) (p .list) (s .light)) (s .rest)) in
     shine-keeps (t .beam) (withLight p (t .light)) lit (tick-begins (p .list) (p .light) (s .light)) o
 
 -- a tick that is not answered 14 keeps the processes sound

@@ -2,6 +2,8 @@
 -- Assumes nothing.
 use mathlib.Core.Path.{sym, _∙_}
 use Rattle.laws.specs.Settles.{Settles}
+use Rattle.box_light.proofs.Light.resting.Kinds as resting-kinds
+use Rattle.box_light.proofs.Light.resting.Reads as resting
 use Rattle.box_light.proofs.Light.laser_on.Kinds as laser-on-kinds
 use Rattle.box_light.proofs.Light.laser_on.Reads as laser-on
 use Rattle.box_light.proofs.Light.randomly.Kinds as randomly-kinds
@@ -16,6 +18,9 @@ use Rattle.box_light.proofs.Light.passed.Kinds as passed-kinds
 use Rattle.box_light.proofs.Light.passed.Reads as passed-reads
 use Rattle.box_light.proofs.Light.quiet.Kinds as quiet-kinds
 use Rattle.box_light.proofs.Light.quiet.Reads as quiet-reads
+
+pub resting-settles : Settles 0 resting-kinds.ps resting-kinds.r resting.Post
+resting-settles κs a e x y p q = p ∙ sym q
 
 pub laser-on-settles : Settles 0 laser-on-kinds.ps laser-on-kinds.r laser-on.Post
 laser-on-settles κs a e x y p q = p ∙ sym q

@@ -8,7 +8,14 @@ use Rattle.clock.specs.Timers.{stopped}
 use Rattle.clock.specs.declared.Quanta.{Quanta}
 use Rattle.clock.specs.declared.Timer.{Timer}
 use Rattle.box_light.specs.declared.Light.{Light}
-use Rattle.box_light.specs.declared.Light.the-variants.{Rest, Before, Random, Warming, Asking, Due, Lit, Open}
+use Rattle.box_light.specs.declared.Phase.{Phase}
+use Rattle.box_light.specs.declared.Phase.the-variants.{Rest, Before, Random, Warming, Asking, Due, Lit, Open}
+
+abbrev pub lightIn : Phase → Timer → Light
+lightIn p t = record { phase = p; timer = t }
+
+abbrev pub resting : Light
+resting = lightIn Rest stopped
 
 -- R110, R133: the time before transmission; a sync time in range does not wrap
 unfoldable pub laserOnFor : Quanta → Timer
@@ -20,45 +27,32 @@ restOf length sync = record { left = length .0 - (laserOn + sync .0) }
 
 -- R108
 unfoldable pub randomly : Quanta → Quanta → Light
-randomly random sync = cond (eqb (random .0) 0) (Warming (laserOnFor sync)) (Random (record { left = random .0 }) sync)
+randomly random sync =
+    cond (eqb (random .0) 0) (lightIn Warming (laserOnFor sync)) (lightIn (Random sync) (record { left = random .0 }))
+
+abbrev pub rests : Phase → Bool
+rests Rest = true
+rests (Before random sync) = false
+rests (Random sync) = false
+rests Warming = false
+rests Asking = false
+rests (Due entry sync) = false
+rests (Lit length sync) = false
+rests Open = false
 
 abbrev pub atRest : Light → Bool
-atRest Rest = true
-atRest (Before t random sync) = false
-atRest (Random t sync) = false
-atRest (Warming t) = false
-atRest (Asking t) = false
-atRest (Due t entry sync) = false
-atRest (Lit t length sync) = false
-atRest (Open t) = false
+atRest l = rests (l .phase)
 
 -- laser on: while it settles, and while transmission is enabled; else dark
+abbrev pub shines : Phase → Bool
+shines Rest = false
+shines (Before random sync) = false
+shines (Random sync) = false
+shines Warming = true
+shines Asking = true
+shines (Due entry sync) = false
+shines (Lit length sync) = true
+shines Open = true
+
 abbrev pub isOn : Light → Bool
-isOn Rest = false
-isOn (Before t random sync) = false
-isOn (Random t sync) = false
-isOn (Warming t) = true
-isOn (Asking t) = true
-isOn (Due t entry sync) = false
-isOn (Lit t length sync) = true
-isOn (Open t) = true
-
-abbrev pub timerOf : Light → Timer
-timerOf Rest = stopped
-timerOf (Before t random sync) = t
-timerOf (Random t sync) = t
-timerOf (Warming t) = t
-timerOf (Asking t) = t
-timerOf (Due t entry sync) = t
-timerOf (Lit t length sync) = t
-timerOf (Open t) = t
-
-abbrev pub withTimer : Light → Timer → Light
-withTimer Rest u = Rest
-withTimer (Before t random sync) u = Before u random sync
-withTimer (Random t sync) u = Random u sync
-withTimer (Warming t) u = Warming u
-withTimer (Asking t) u = Asking u
-withTimer (Due t entry sync) u = Due u entry sync
-withTimer (Lit t length sync) u = Lit u length sync
-withTimer (Open t) u = Open u
+isOn l = shines (l .phase)

@@ -2,12 +2,12 @@
 -- Assumes nothing.
 use Prim.Native.Nat.{ℕ}
 use Rattle.clock.specs.Timers.{passedOf as timerPassed, quietOf as timerQuiet}
-use Rattle.box_light.specs.Light.{timerOf, withTimer}
+use Rattle.box_light.specs.Light.{lightIn}
 use Rattle.box_light.specs.declared.Light.{Light}
 
 unfoldable pub passedOf : Light → ℕ → Light
-passedOf l k = withTimer l (timerPassed (timerOf l) k)
+passedOf l k = lightIn (l .phase) (timerPassed (l .timer) k)
 
 -- the ticks that come before the ring
 unfoldable pub quietOf : Light → ℕ
-quietOf l = timerQuiet (timerOf l)
+quietOf l = timerQuiet (l .timer)

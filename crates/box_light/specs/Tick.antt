@@ -3,30 +3,31 @@
 use mathlib.Core.Bool.{cond}
 use Rattle.clock.specs.Numbers.{quantaOf}
 use Rattle.clock.specs.Timers.{ticked}
-use Rattle.box_light.specs.Light.{laserOnFor, restOf, randomly, timerOf, withTimer}
+use Rattle.box_light.specs.Light.{lightIn, resting, laserOnFor, restOf, randomly}
 use Rattle.box_light.specs.declared.Light.{Light}
-use Rattle.box_light.specs.declared.Light.the-variants.{Rest, Before, Random, Warming, Asking, Due, Lit, Open}
+use Rattle.box_light.specs.declared.Phase.{Phase}
+use Rattle.box_light.specs.declared.Phase.the-variants.{Rest, Before, Random, Warming, Asking, Due, Lit, Open}
 use Rattle.box_light.specs.declared.LightTicked.{LightTicked}
 use Rattle.box_light.specs.declared.Beam.the-variants.{Quiet, Window, Start, Opened, Closed}
 
-abbrev pub after : Light → LightTicked
-after Rest = record { light = Rest; beam = Quiet }
+abbrev pub after : Phase → LightTicked
+after Rest = record { light = resting; beam = Quiet }
 -- R108
-after (Before t random sync) = record { light = randomly random sync; beam = Quiet }
+after (Before random sync) = record { light = randomly random sync; beam = Quiet }
 -- R110: the laser goes on
-after (Random t sync) = record { light = Warming (laserOnFor sync); beam = Quiet }
+after (Random sync) = record { light = lightIn Warming (laserOnFor sync); beam = Quiet }
 -- R110, R111: transmission is enabled
-after (Warming t) = record { light = Asking (record { left = quantaOf 60 }); beam = Window }
+after Warming = record { light = lightIn Asking (record { left = quantaOf 60 }); beam = Window }
 -- R112
-after (Asking t) = record { light = Rest; beam = Quiet }
+after Asking = record { light = resting; beam = Quiet }
 -- R132
-after (Due t entry sync) = record { light = Rest; beam = Start entry sync }
+after (Due entry sync) = record { light = resting; beam = Start entry sync }
 -- R133: open
-after (Lit t length sync) = record { light = Open (restOf length sync); beam = Opened }
+after (Lit length sync) = record { light = lightIn Open (restOf length sync); beam = Opened }
 -- R133, R134: close
-after (Open t) = record { light = Rest; beam = Closed }
+after Open = record { light = resting; beam = Closed }
 
 unfoldable pub tickOf : Light → LightTicked
 tickOf l =
-    let t = ticked (timerOf l) in
-    cond (t .rang) (after l) (record { light = withTimer l (t .timer); beam = Quiet })
+    let t = ticked (l .timer) in
+    cond (t .rang) (after (l .phase)) (record { light = lightIn (l .phase) (t .timer); beam = Quiet })

@@ -1,8 +1,8 @@
-// The box's transmitter: what it waits for or does, with the timer of that.
+// The box's transmitter: what it waits for or does, and the timer of that.
 ghost use mathlib.Core.Path.{_≡_};
-ghost use Rattle.box_light.specs.Light.{laserOnFor, restOf, atRest, timerOf, withTimer, randomly};
+ghost use Rattle.box_light.specs.Light.{lightIn, resting, laserOnFor, restOf, rests, atRest, randomly};
 ghost use Rattle.box_light.specs.Pass.{passedOf, quietOf};
-ghost use Rattle.box_light.specs.Sound.{waitFits, served, soundOf};
+ghost use Rattle.box_light.specs.Sound.{waitFits, served, soundIn, soundOf};
 ghost use Rattle.box_light.specs.Tick.{after, tickOf};
 use box_grants::GrantList;
 use clock::Count;
@@ -12,36 +12,21 @@ use clock::Timer;
 
 // Discovery: before its start, in the random wait, laser on, transmission enabled. A normal grant: waited for, laser on,
 // transmission enabled.
-pub enum Light {
+pub enum Phase {
     Rest,
-    Before {
-        timer: Timer,
-        random: Quanta,
-        sync: Quanta,
-    },
-    Random {
-        timer: Timer,
-        sync: Quanta,
-    },
-    Warming {
-        timer: Timer,
-    },
-    Asking {
-        timer: Timer,
-    },
-    Due {
-        timer: Timer,
-        entry: Span,
-        sync: Quanta,
-    },
-    Lit {
-        timer: Timer,
-        length: Quanta,
-        sync: Quanta,
-    },
-    Open {
-        timer: Timer,
-    },
+    Before { random: Quanta, sync: Quanta },
+    Random { sync: Quanta },
+    Warming,
+    Asking,
+    Due { entry: Span, sync: Quanta },
+    Lit { length: Quanta, sync: Quanta },
+    Open,
+}
+
+// At rest the timer is stopped; in the other phases it runs.
+pub struct Light {
+    pub phase: Phase,
+    pub timer: Timer,
 }
 
 // What a tick of the transmitter brings: discovery transmission is enabled, a grant's start has come, its window opens, closes.
@@ -58,6 +43,77 @@ pub struct LightTicked {
     pub beam: Beam,
 }
 
+impl Phase {
+    fn rests(self) -> bool
+        ensures { λ r. ⌜ r ≡ rests self ⌝ }
+    {
+        match self {
+            Phase::Rest => true,
+            Phase::Before { random: _, sync: _ } => false,
+            Phase::Random { sync: _ } => false,
+            Phase::Warming => false,
+            Phase::Asking => false,
+            Phase::Due { entry: _, sync: _ } => false,
+            Phase::Lit { length: _, sync: _ } => false,
+            Phase::Open => false,
+        }
+    }
+
+    // What follows when its timer has rung.
+    fn after(self) -> LightTicked
+        ensures { λ r. ⌜ r ≡ after self ⌝ }
+    {
+        match self {
+            Phase::Rest => with_beam(Phase::Rest, Timer::stopped(), Beam::Quiet),
+            Phase::Before { random, sync } => {
+                let light = Light::randomly(random, sync);
+                let phase = light.phase;
+                with_beam(phase, light.timer, Beam::Quiet)
+            }
+            Phase::Random { sync } => with_beam(Phase::Warming, Light::laser_on(sync), Beam::Quiet),
+            Phase::Warming => {
+                let timer = Timer::stopped().start(Quanta::FRAME);
+                with_beam(Phase::Asking, timer, Beam::Window)
+            }
+            Phase::Asking => with_beam(Phase::Rest, Timer::stopped(), Beam::Quiet),
+            Phase::Due { entry, sync } => with_beam(
+                Phase::Rest,
+                Timer::stopped(),
+                Beam::Start(entry, sync),
+            ),
+            Phase::Lit { length, sync } => with_beam(
+                Phase::Open,
+                Light::rest(length, sync),
+                Beam::Opened,
+            ),
+            Phase::Open => with_beam(Phase::Rest, Timer::stopped(), Beam::Closed),
+        }
+    }
+
+    // Its timer is within its longest setting; a grant that is waited for is in the list.
+    fn sound(self, timer: Timer, list: GrantList) -> bool
+        ensures { λ r. ⌜ r ≡ soundIn self timer list ⌝ }
+    {
+        match self {
+            Phase::Rest => timer.off(),
+            Phase::Before { random, sync } => timer.runs(Count::FURTHEST)
+                & Light::wait_fits(random.0, sync),
+            Phase::Random { sync } => timer.runs(Quanta::MOST) & Light::wait_fits(timer.left, sync),
+            Phase::Warming => timer.runs(Light::LONGEST_WARMING),
+            Phase::Asking => timer.runs(Quanta::FRAME),
+            Phase::Due { entry, sync } => {
+                let length = entry.length;
+                timer.runs(Light::LONGEST_DUE) & list.holds(entry) & Light::served(length, sync)
+            }
+            Phase::Lit { length, sync } => {
+                let full = Light::laser_on(sync);
+                timer.runs(Quanta(full.left)) & Light::served(length, sync)
+            }
+            Phase::Open => timer.runs(Light::LONGEST_OPEN),
+        }
+    }
+}
+
 impl Light {
     // The laser of the longest discovery grant that serves: all of it but a frame.
     const LONGEST_WARMING: Quanta = Quanta(Quanta::MOST.0 - Quanta::FRAME.0);
@@ -67,6 +123,15 @@ impl Light {
 
     // The longest grant, less the laser-on time.
     const LONGEST_OPEN: Quanta = Quanta(Quanta::MOST.0 - Quanta::LASER_ON.0);
+
+    pub fn resting() -> Light
+        ensures { λ r. ⌜ r ≡ resting ⌝ }
+    {
+        Light {
+            phase: Phase::Rest,
+            timer: Timer::stopped(),
+        }
+    }
 
     // The timer of a laser that has just gone on.
     pub fn laser_on(sync: Quanta) -> Timer
@@ -97,137 +162,22 @@ impl Light {
     {
         let n = random.0;
         if n == 0 {
-            let timer = Light::laser_on(sync);
-            return Light::Warming { timer };
+            return Light {
+                phase: Phase::Warming,
+                timer: Light::laser_on(sync),
+            };
         }
-        let timer = Timer::stopped().start(random);
-        Light::Random { timer, sync }
+        Light {
+            phase: Phase::Random { sync },
+            timer: Timer::stopped().start(random),
+        }
     }
 
     pub fn at_rest(self) -> bool
         ensures { λ r. ⌜ r ≡ atRest self ⌝ }
     {
-        match self {
-            Light::Rest => true,
-            Light::Before {
-                timer: _,
-                random: _,
-                sync: _,
-            } => false,
-            Light::Random { timer: _, sync: _ } => false,
-            Light::Warming { timer: _ } => false,
-            Light::Asking { timer: _ } => false,
-            Light::Due {
-                timer: _,
-                entry: _,
-                sync: _,
-            } => false,
-            Light::Lit {
-                timer: _,
-                length: _,
-                sync: _,
-            } => false,
-            Light::Open { timer: _ } => false,
-        }
-    }
-
-    fn timer(self) -> Timer
-        ensures { λ r. ⌜ r ≡ timerOf self ⌝ }
-    {
-        match self {
-            Light::Rest => Timer::stopped(),
-            Light::Before {
-                timer,
-                random: _,
-                sync: _,
-            } => timer,
-            Light::Random { timer, sync: _ } => timer,
-            Light::Warming { timer } => timer,
-            Light::Asking { timer } => timer,
-            Light::Due {
-                timer,
-                entry: _,
-                sync: _,
-            } => timer,
-            Light::Lit {
-                timer,
-                length: _,
-                sync: _,
-            } => timer,
-            Light::Open { timer } => timer,
-        }
-    }
-
-    fn with_timer(self, timer: Timer) -> Light
-        ensures { λ r. ⌜ r ≡ withTimer self timer ⌝ }
-    {
-        match self {
-            Light::Rest => Light::Rest,
-            Light::Before {
-                timer: _,
-                random,
-                sync,
-            } => Light::Before {
-                timer,
-                random,
-                sync,
-            },
-            Light::Random { timer: _, sync } => Light::Random { timer, sync },
-            Light::Warming { timer: _ } => Light::Warming { timer },
-            Light::Asking { timer: _ } => Light::Asking { timer },
-            Light::Due {
-                timer: _,
-                entry,
-                sync,
-            } => Light::Due { timer, entry, sync },
-            Light::Lit {
-                timer: _,
-                length,
-                sync,
-            } => Light::Lit {
-                timer,
-                length,
-                sync,
-            },
-            Light::Open { timer: _ } => Light::Open { timer },
-        }
-    }
-
-    // What follows when a grant's timer has rung.
-    fn after(self) -> LightTicked
-        ensures { λ r. ⌜ r ≡ after self ⌝ }
-    {
-        match self {
-            Light::Rest => with_beam(Light::Rest, Beam::Quiet),
-            Light::Before {
-                timer: _,
-                random,
-                sync,
-            } => with_beam(Light::randomly(random, sync), Beam::Quiet),
-            Light::Random { timer: _, sync } => {
-                let timer = Light::laser_on(sync);
-                with_beam(Light::Warming { timer }, Beam::Quiet)
-            }
-            Light::Warming { timer: _ } => {
-                let timer = Timer::stopped().start(Quanta::FRAME);
-                with_beam(Light::Asking { timer }, Beam::Window)
-            }
-            Light::Asking { timer: _ } => with_beam(Light::Rest, Beam::Quiet),
-            Light::Due {
-                timer: _,
-                entry,
-                sync,
-            } => with_beam(Light::Rest, Beam::Start(entry, sync)),
-            Light::Lit {
-                timer: _,
-                length,
-                sync,
-            } => {
-                let timer = Light::rest(length, sync);
-                with_beam(Light::Open { timer }, Beam::Opened)
-            }
-            Light::Open { timer: _ } => with_beam(Light::Rest, Beam::Closed),
-        }
+        let phase = self.phase;
+        phase.rests()
     }
 
     // A random wait, to come or running, that a grant can hold.
@@ -245,68 +195,47 @@ impl Light {
         (Quanta::needed(sync) <= length.0 as u64) & length.fits()
     }
 
-    // Every running timer within its longest setting; a grant that is waited for is in the list.
     pub fn sound(self, list: GrantList) -> bool
         ensures { λ r. ⌜ r ≡ soundOf self list ⌝ }
     {
-        match self {
-            Light::Rest => true,
-            Light::Before {
-                timer,
-                random,
-                sync,
-            } => timer.runs(Count::FURTHEST) & Light::wait_fits(random.0, sync),
-            Light::Random { timer, sync } => timer.runs(Quanta::MOST)
-                & Light::wait_fits(timer.left, sync),
-            Light::Warming { timer } => timer.runs(Light::LONGEST_WARMING),
-            Light::Asking { timer } => timer.runs(Quanta::FRAME),
-            Light::Due { timer, entry, sync } => {
-                let length = entry.length;
-                timer.runs(Light::LONGEST_DUE) & list.holds(entry) & Light::served(length, sync)
-            }
-            Light::Lit {
-                timer,
-                length,
-                sync,
-            } => {
-                let full = Light::laser_on(sync);
-                timer.runs(Quanta(full.left)) & Light::served(length, sync)
-            }
-            Light::Open { timer } => timer.runs(Light::LONGEST_OPEN),
-        }
+        let phase = self.phase;
+        phase.sound(self.timer, list)
     }
 
     pub fn tick(self) -> LightTicked
         ensures { λ r. ⌜ r ≡ tickOf self ⌝ }
     {
-        let timer = self.timer();
-        let t = timer.tick();
+        let phase = self.phase;
+        let before = self.timer;
+        let t = before.tick();
         if t.rang {
-            return self.after();
+            return phase.after();
         }
-        let left = t.timer;
-        with_beam(self.with_timer(left), Beam::Quiet)
+        with_beam(phase, t.timer, Beam::Quiet)
     }
 
     // After k ticks, at none of which its timer rings.
     pub fn passed(self, k: u32) -> Light
         ensures { λ r. ⌜ r ≡ passedOf self k ⌝ }
     {
-        let timer = self.timer();
-        self.with_timer(timer.passed(k))
+        let phase = self.phase;
+        let before = self.timer;
+        let timer = before.passed(k);
+        Light { phase, timer }
     }
 
     // How many ticks come before the one at which its timer rings.
     pub fn quiet(self) -> u32
         ensures { λ r. ⌜ r ≡ quietOf self ⌝ }
     {
-        let timer = self.timer();
+        let timer = self.timer;
         timer.quiet()
     }
 }
 
-fn with_beam(light: Light, beam: Beam) -> LightTicked
-    ensures { λ r. ⌜ r ≡ record { light = light; beam = beam } ⌝ }
+fn with_beam(phase: Phase, timer: Timer, beam: Beam) -> LightTicked
+    ensures { λ r. ⌜ r ≡ record { light = lightIn phase timer; beam = beam } ⌝ }
 {
+    let light = Light { phase, timer };
     LightTicked { light, beam }
 }

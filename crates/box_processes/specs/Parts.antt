@@ -5,8 +5,8 @@ use mathlib.Core.List.{[]}
 use Rattle.clock.specs.declared.Count.{Count}
 use Rattle.box_grants.specs.Listed.{packed}
 use Rattle.box_grants.specs.declared.GrantList.{GrantList}
+use Rattle.box_light.specs.Light.{resting}
 use Rattle.box_light.specs.declared.Light.{Light}
-use Rattle.box_light.specs.declared.Light.the-variants.{Rest}
 use Rattle.box_registration.specs.Registration.{fresh as unregistered, waiting as unregister}
 use Rattle.box_registration.specs.declared.Registration.{Registration}
 use Rattle.box_telling.specs.Told.{noticesOf}
@@ -16,7 +16,7 @@ use Rattle.box_processes.specs.declared.Step.{Step}
 
 -- R90
 abbrev pub fresh : Processes
-fresh = record { count = record { 0 = 0 }; registration = unregistered; list = packed []; light = Rest }
+fresh = record { count = record { 0 = 0 }; registration = unregistered; list = packed []; light = resting }
 
 abbrev pub withCount : Processes → Count → Processes
 withCount b c = record { count = c; registration = b .registration; list = b .list; light = b .light }
@@ -32,7 +32,7 @@ withLight b l = record { count = b .count; registration = b .registration; list 
 
 -- R95
 abbrev pub waiting : Processes → Processes
-waiting b = record { count = b .count; registration = unregister (b .registration); list = packed []; light = Rest }
+waiting b = record { count = b .count; registration = unregister (b .registration); list = packed []; light = resting }
 
 -- without notice or frame
 abbrev pub still : Processes → Step

@@ -55,7 +55,7 @@ impl Processes {
             count: Count(0),
             registration,
             list,
-            light: Light::Rest,
+            light: Light::resting(),
         }
     }
 
@@ -109,7 +109,7 @@ impl Processes {
             count,
             registration,
             list,
-            light: Light::Rest,
+            light: Light::resting(),
         }
     }
 

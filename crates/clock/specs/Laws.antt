@@ -148,6 +148,11 @@ ticked-falls t h = rw (ticked-on t (omega arith)) (ne-eqb (t .left) 1 (omega ari
 pub ticked-rings : (t : Timer) → t .left ≡ 1 → ticked t .rang ≡ true
 ticked-rings t h = rw (ticked-on t (omega arith), h)
 
+-- one that is off stays so
+pub ticked-off : (t : Timer) → off t ≡ true → ticked t ≡ record { timer = t; rang = false }
+unfolding ticked off
+ticked-off t h = rw h
+
 -- one that does not ring runs on, within the same longest setting
 pub ticked-runs : (t : Timer) (n : ℕ) → runs t n ≡ true → ticked t .rang ≡ false → runs (ticked t .timer) n ≡ true
 ticked-runs t n h e =

@@ -5,12 +5,12 @@ use mathlib.Core.Bool.{Bool, true, cond, _&&_}
 use mathlib.Core.List.{List, [], _∷_, _++_, map}
 use lib.Dec.{eqb}
 use lib.ListN.{take, drop, getD}
-use Rattle.clock.specs.Timers.{stopped}
-use Rattle.clock.specs.declared.Timer.{Timer}
 use Rattle.clock.specs.declared.Span.{Span}
 use Rattle.box_calls.specs.declared.FloorBox.{FloorBox}
+use Rattle.box_light.specs.Light.{lightIn}
 use Rattle.box_light.specs.declared.Light.{Light}
-use Rattle.box_light.specs.declared.Light.the-variants.{Rest, Before, Random, Warming, Asking, Due, Lit, Open}
+use Rattle.box_light.specs.declared.Phase.{Phase}
+use Rattle.box_light.specs.declared.Phase.the-variants.{Rest, Before, Random, Warming, Asking, Due, Lit, Open}
 use Rattle.box_registration.specs.declared.Registration.{Registration}
 use Rattle.box_registration.specs.declared.State.{State}
 use Rattle.box_registration.specs.declared.State.the-variants.{Wait, Registering, RegisterReq, Registered}
@@ -18,7 +18,7 @@ use Rattle.face_fields.specs.Fields.{shortOf, countOf, quantaOf, timerOf, spanW
 use Rattle.box_processes.specs.Parts.{fresh}
 use Rattle.face_words.specs.Words.{same}
 use Rattle.face_box.specs.declared.Front.{Front}
-use Rattle.face_box.specs.declared.LightWords.{LightWords}
+use Rattle.face_box.specs.declared.PhaseWords.{PhaseWords}
 
 abbrev pub stateWord : State → ℕ
 stateWord Wait = 0
@@ -41,43 +41,44 @@ registrationOf state wait watchdog report port sync =
       sync = quantaOf sync;
     }
 
-abbrev pub phaseWords : ℕ → Timer → ℕ → ℕ → LightWords
-phaseWords phase timer grant sync = record { phase = phase; left = timer .left; grant = grant; sync = sync }
+abbrev phase : ℕ → ℕ → ℕ → PhaseWords
+phase n grant sync = record { phase = n; grant = grant; sync = sync }
 
 -- what a phase does not hold is 0
-abbrev pub lightWords : Light → LightWords
-lightWords Rest = phaseWords 0 stopped 0 0
-lightWords (Before t random sync) = phaseWords 1 t (random .0) (sync .0)
-lightWords (Random t sync) = phaseWords 2 t 0 (sync .0)
-lightWords (Warming t) = phaseWords 3 t 0 0
-lightWords (Asking t) = phaseWords 4 t 0 0
-lightWords (Due t entry sync) = phaseWords 5 t (spanWord entry) (sync .0)
-lightWords (Lit t length sync) = phaseWords 6 t (length .0) (sync .0)
-lightWords (Open t) = phaseWords 7 t 0 0
+abbrev pub phaseWords : Phase → PhaseWords
+phaseWords Rest = phase 0 0 0
+phaseWords (Before random sync) = phase 1 (random .0) (sync .0)
+phaseWords (Random sync) = phase 2 0 (sync .0)
+phaseWords Warming = phase 3 0 0
+phaseWords Asking = phase 4 0 0
+phaseWords (Due entry sync) = phase 5 (spanWord entry) (sync .0)
+phaseWords (Lit length sync) = phase 6 (length .0) (sync .0)
+phaseWords Open = phase 7 0 0
 
 -- the phases of discovery; a word that is no phase's is taken as rest
-unfoldable pub discoveryOf : LightWords → Light
+unfoldable pub discoveryOf : PhaseWords → Phase
 discoveryOf w =
-    let t = timerOf (w .left) in
     let sync = quantaOf (w .sync) in
-    cond (eqb (w .phase) 1) (Before t (quantaOf (w .grant)) sync)
-    (cond (eqb (w .phase) 2) (Random t sync)
-    (cond (eqb (w .phase) 3) (Warming t)
-    (cond (eqb (w .phase) 4) (Asking t) Rest)))
+    cond (eqb (w .phase) 1) (Before (quantaOf (w .grant)) sync)
+    (cond (eqb (w .phase) 2) (Random sync)
+    (cond (eqb (w .phase) 3) Warming
+    (cond (eqb (w .phase) 4) Asking Rest)))
 
-unfoldable pub lightOf : LightWords → Light
-lightOf w =
-    let t = timerOf (w .left) in
+unfoldable pub phaseOf : PhaseWords → Phase
+phaseOf w =
     let sync = quantaOf (w .sync) in
-    cond (eqb (w .phase) 5) (Due t (spanOf (w .grant)) sync)
-    (cond (eqb (w .phase) 6) (Lit t (quantaOf (w .grant)) sync)
-    (cond (eqb (w .phase) 7) (Open t) (discoveryOf w)))
+    cond (eqb (w .phase) 5) (Due (spanOf (w .grant)) sync)
+    (cond (eqb (w .phase) 6) (Lit (quantaOf (w .grant)) sync)
+    (cond (eqb (w .phase) 7) Open (discoveryOf w)))
+
+abbrev pub lightOf : ℕ → ℕ → ℕ → ℕ → Light
+lightOf word left grant sync = lightIn (phaseOf (phase word grant sync)) (timerOf left)
 
 -- the words before the list's grants, in their order
 unfoldable pub frontWords : Front → List ℕ
 frontWords f =
     let r = f .registration in
-    let l = lightWords (f .light) in
+    let l = phaseWords (f .light .phase) in
     f .address .0
     ∷ f .count .0
     ∷ stateWord (r .state)
@@ -87,7 +88,7 @@ frontWords f =
     ∷ r .port
     ∷ r .sync .0
     ∷ l .phase
-    ∷ l .left
+    ∷ f .light .timer .left
     ∷ l .grant
     ∷ l .sync
     ∷ f .number
@@ -100,7 +101,7 @@ frontOf w =
       address = record { 0 = at 0 };
       count = countOf (at 1);
       registration = registrationOf (at 2) (at 3) (at 4) (at 5) (at 6) (at 7);
-      light = lightOf (record { phase = at 8; left = at 9; grant = at 10; sync = at 11 });
+      light = lightOf (at 8) (at 9) (at 10) (at 11);
       number = at 12;
     }
 

@@ -2,7 +2,7 @@
 ghost use mathlib.Core.Path.{_≡_};
 ghost use mathlib.Core.List.{map};
 ghost use lib.ListN.{drop};
-ghost use Rattle.face_box.specs.Box.{stateWord, stateOf, registrationOf, phaseWords, lightWords, discoveryOf, lightOf, frontWords, frontOf, boxed, isClear, hasWords, boxWords, nobody, boxIn};
+ghost use Rattle.face_box.specs.Box.{stateWord, stateOf, registrationOf, phaseWords, discoveryOf, phaseOf, lightOf, frontWords, frontOf, boxed, isClear, hasWords, boxWords, nobody, boxIn};
 ghost use Rattle.face_box.specs.Listing.{listOf};
 ghost use Rattle.face_box.specs.Laying.{howMany, layout};
 ghost use Rattle.face_box.specs.Told.{kindWords, noticeWords, toldWords};
@@ -11,19 +11,18 @@ ghost use Rattle.face_words.specs.Words.{laid};
 use box_calls::FloorBox;
 use box_grants::GrantList;
 use box_light::Light;
+use box_light::Phase;
 use box_processes::Processes;
 use box_registration::Registration;
 use box_registration::State;
 use box_telling::Notice;
 use box_telling::Notices;
 use clock::Count;
-use clock::Timer;
 use frame::Address;
 
-// The transmitter: its phase, the ticks left, what it holds of a grant, and the sync held.
-pub struct LightWords {
+// A phase of the transmitter: its number, what it holds of a grant, and the sync held.
+pub struct PhaseWords {
     pub phase: u64,
-    pub left: u64,
     pub grant: u64,
     pub sync: u64,
 }
@@ -122,96 +121,82 @@ fn registration_of(
     }
 }
 
-fn phase(phase: u64, timer: Timer, grant: u64, sync: u64) -> LightWords
-    ensures { λ r. ⌜ r ≡ phaseWords phase timer grant sync ⌝ }
+fn phase(phase: u64, grant: u64, sync: u64) -> PhaseWords
+    ensures { λ r. ⌜ r ≡ record { phase = phase; grant = grant; sync = sync } ⌝ }
 {
-    LightWords {
-        phase,
-        left: timer.left as u64,
-        grant,
-        sync,
-    }
+    PhaseWords { phase, grant, sync }
 }
 
-fn light_words(light: Light) -> LightWords
-    ensures { λ r. ⌜ r ≡ lightWords light ⌝ }
+fn phase_words(held: Phase) -> PhaseWords
+    ensures { λ r. ⌜ r ≡ phaseWords held ⌝ }
 {
-    match light {
-        Light::Rest => phase(0, Timer::stopped(), 0, 0),
-        Light::Before {
-            timer,
-            random,
-            sync,
-        } => phase(1, timer, random.0 as u64, sync.0 as u64),
-        Light::Random { timer, sync } => phase(2, timer, 0, sync.0 as u64),
-        Light::Warming { timer } => phase(3, timer, 0, 0),
-        Light::Asking { timer } => phase(4, timer, 0, 0),
-        Light::Due { timer, entry, sync } => phase(
-            5,
-            timer,
-            face_fields::span_word(entry),
-            sync.0 as u64,
-        ),
-        Light::Lit {
-            timer,
-            length,
-            sync,
-        } => phase(6, timer, length.0 as u64, sync.0 as u64),
-        Light::Open { timer } => phase(7, timer, 0, 0),
+    match held {
+        Phase::Rest => phase(0, 0, 0),
+        Phase::Before { random, sync } => phase(1, random.0 as u64, sync.0 as u64),
+        Phase::Random { sync } => phase(2, 0, sync.0 as u64),
+        Phase::Warming => phase(3, 0, 0),
+        Phase::Asking => phase(4, 0, 0),
+        Phase::Due { entry, sync } => phase(5, face_fields::span_word(entry), sync.0 as u64),
+        Phase::Lit { length, sync } => phase(6, length.0 as u64, sync.0 as u64),
+        Phase::Open => phase(7, 0, 0),
     }
 }
 
 // The phases of discovery. A word that is no phase's is taken as rest.
-fn discovery_of(w: LightWords) -> Light
+fn discovery_of(w: PhaseWords) -> Phase
     ensures { λ r. ⌜ r ≡ discoveryOf w ⌝ }
 {
     let phase = w.phase;
-    let timer = face_fields::timer_of(w.left);
     let sync = face_fields::quanta_of(w.sync);
     if phase == 1 {
-        return Light::Before {
-            timer,
+        return Phase::Before {
             random: face_fields::quanta_of(w.grant),
             sync,
         };
     }
     if phase == 2 {
-        return Light::Random { timer, sync };
+        return Phase::Random { sync };
     }
     if phase == 3 {
-        return Light::Warming { timer };
+        return Phase::Warming;
     }
     if phase == 4 {
-        return Light::Asking { timer };
+        return Phase::Asking;
     }
-    Light::Rest
+    Phase::Rest
 }
 
-fn light_of(w: LightWords) -> Light
-    ensures { λ r. ⌜ r ≡ lightOf w ⌝ }
+fn phase_of(w: PhaseWords) -> Phase
+    ensures { λ r. ⌜ r ≡ phaseOf w ⌝ }
 {
     let phase = w.phase;
     let grant = w.grant;
-    let timer = face_fields::timer_of(w.left);
     let sync = face_fields::quanta_of(w.sync);
     if phase == 5 {
-        return Light::Due {
-            timer,
+        return Phase::Due {
             entry: face_fields::span_of(grant),
             sync,
         };
     }
     if phase == 6 {
-        return Light::Lit {
-            timer,
+        return Phase::Lit {
             length: face_fields::quanta_of(grant),
             sync,
         };
     }
     if phase == 7 {
-        return Light::Open { timer };
+        return Phase::Open;
     }
     discovery_of(w)
+}
+
+fn light_of(word: u64, left: u64, grant: u64, sync: u64) -> Light
+    ensures { λ r. ⌜ r ≡ lightOf word left grant sync ⌝ }
+{
+    Light {
+        phase: phase_of(phase(word, grant, sync)),
+        timer: face_fields::timer_of(left),
+    }
 }
 
 pub fn front_words(f: Front) -> [u64; 13]
@@ -220,8 +205,10 @@ pub fn front_words(f: Front) -> [u64; 13]
     let address = f.address;
     let count = f.count;
     let registration = f.registration;
-    let held = f.light;
-    let light = light_words(held);
+    let light = f.light;
+    let timer = light.timer;
+    let phase = light.phase;
+    let held = phase_words(phase);
     let state = registration.state;
     let wait = registration.wait;
     let watchdog = registration.watchdog;
@@ -236,10 +223,10 @@ pub fn front_words(f: Front) -> [u64; 13]
         report.left as u64,
         registration.port as u64,
         sync.0 as u64,
-        light.phase,
-        light.left,
-        light.grant,
-        light.sync,
+        held.phase,
+        timer.left as u64,
+        held.grant,
+        held.sync,
         f.number as u64,
     ]
 }
@@ -247,17 +234,11 @@ pub fn front_words(f: Front) -> [u64; 13]
 pub fn front_of(w: [u64; 29]) -> Front
     ensures { λ r. ⌜ r ≡ frontOf w ⌝ }
 {
-    let held = LightWords {
-        phase: w[8],
-        left: w[9],
-        grant: w[10],
-        sync: w[11],
-    };
     Front {
         address: Address(w[0]),
         count: face_fields::count_of(w[1]),
         registration: registration_of(w[2], w[3], w[4], w[5], w[6], w[7]),
-        light: light_of(held),
+        light: light_of(w[8], w[9], w[10], w[11]),
         number: w[12] as usize,
     }
 }

@@ -8,10 +8,10 @@ use native.Mathlib.Omega.{arith}
 use borrow.Author.Tests.{lt-ltb, le-ltb, le-leb, lt-leb, ltb-false, eq-eqb, ne-eqb}
 use lib.Dec.{eqb, leb, ltb}
 use Rattle.laws.specs.Cases.{cut, either}
-use Rattle.face_box.specs.Box.{stateWord, stateOf, registrationOf, lightWords, discoveryOf as discovering, lightOf as lighting}
-use Rattle.face_box.specs.declared.LightWords.{LightWords}
+use Rattle.face_box.specs.Box.{stateWord, stateOf, registrationOf, phaseWords, discoveryOf as discovering, phaseOf as phasing, lightOf as told}
 use Rattle.clock.specs.Numbers.{furthest}
 use Rattle.clock.specs.Timers.{off, runs, quietOf}
+use Rattle.clock.specs.declared.Timer.{Timer}
 use Rattle.face_fields.specs.Fields.{timerOf, quantaOf}
 use Rattle.face_words.specs.Laws.{joined-again}
 use Rattle.face_words.specs.Words.{lower}
@@ -19,7 +19,8 @@ use Rattle.box_light.specs.Light.{laserOnFor}
 use Rattle.box_light.specs.Pass.{quietOf as lightQuiet}
 use Rattle.box_light.specs.Sound.{waitFits, served}
 use Rattle.box_light.specs.declared.Light.{Light}
-use Rattle.box_light.specs.declared.Light.the-variants.{Rest, Before, Random, Warming, Asking, Due, Lit, Open}
+use Rattle.box_light.specs.declared.Phase.{Phase}
+use Rattle.box_light.specs.declared.Phase.the-variants.{Rest, Before, Random, Warming, Asking, Due, Lit, Open}
 use Rattle.box_registration.specs.Pass.{quietOf as registrationQuiet}
 use Rattle.box_registration.specs.Sound.{soundIn}
 use Rattle.face_box_pass.specs.Judging.{ringsIn, timesOf, fitsBeside, isServed, discoveryOf, lightOf}
@@ -40,15 +41,6 @@ fit w m =
     let n : min w m ≡ w = omega arith in
     rw (n, le-leb w m h) (eq-eqb w w refl))
     (cut m w)
-
-stopped : (w : ℕ) → (wide w && off (timerOf w)) ≡ eqb w 0
-unfolding off
-stopped w =
-    ⊎-elim (λ (h : w < 1).
-    let z : w ≡ 0 = omega arith in
-    rw z)
-    (λ (h : 1 ≤ w). rw (ne-eqb w 0 (omega arith), ne-eqb (min w 4294967295) 0 (omega arith)) (and-false (wide w)))
-    (cut w 1)
 
 rings : (l m : ℕ) → m ≤ 4294967295 → ringsIn l m ≡ guard (wide l && runs (timerOf l) m) (quietOf (timerOf l))
 unfolding ringsIn runs quietOf
@@ -93,7 +85,7 @@ Timely s a b c p y =
     min (timesOf s a b c) 65536 ≡ guard (timesWords s a b c && soundIn (stateOf s) r) (registrationQuiet r)
 
 -- a timer runs that should not, or one that is none's
-unlike : (a : ℕ) → 1 ≤ a → off (timerOf a) ≡ false
+pub unlike : (a : ℕ) → 1 ≤ a → off (timerOf a) ≡ false
 unfolding off
 unlike a h = ne-eqb (min a 4294967295) 0 (omega arith)
 
@@ -173,26 +165,28 @@ module _ (a b c p y : ℕ) where
       (cut s 2)
 
 -- the transmitter's soundness, but for the list
+abbrev apartIn : Phase → Timer → Bool
+apartIn Rest t = off t
+apartIn (Before random sync) t = runs t furthest && waitFits (random .0) sync
+apartIn (Random sync) t = runs t 65535 && waitFits (t .left) sync
+apartIn Warming t = runs t 65493
+apartIn Asking t = runs t 42
+apartIn (Due entry sync) t = runs t (2 ^ 31 - 1) && served (entry .length) sync
+apartIn (Lit length sync) t = runs t (laserOnFor sync .left) && served length sync
+apartIn Open t = runs t 65503
+
 abbrev pub apart : Light → Bool
-apart Rest = true
-apart (Before t random sync) = runs t furthest && waitFits (random .0) sync
-apart (Random t sync) = runs t 65535 && waitFits (t .left) sync
-apart (Warming t) = runs t 65493
-apart (Asking t) = runs t 42
-apart (Due t entry sync) = runs t (2 ^ 31 - 1) && served (entry .length) sync
-apart (Lit t length sync) = runs t (laserOnFor sync .left) && served length sync
-apart (Open t) = runs t 65503
+apart l = apartIn (l .phase) (l .timer)
 
 -- the words of a transmitter are its own
-abbrev pub lightSame : ℕ → ℕ → ℕ → ℕ → LightWords → Bool
-lightSame p l g y w = eqb (w .phase) p && (eqb (w .left) l && (eqb (w .grant) g && eqb (w .sync) y))
-
-abbrev pub told : ℕ → ℕ → ℕ → ℕ → Light
-told p l g y = lighting (record { phase = p; left = l; grant = g; sync = y })
+abbrev pub lightSame : ℕ → ℕ → ℕ → ℕ → Light → Bool
+lightSame p l g y t =
+    let w = phaseWords (t .phase) in
+    eqb (w .phase) p && (eqb (t .timer .left) l && (eqb (w .grant) g && eqb (w .sync) y))
 
 abbrev Lights : ℕ → ℕ → ℕ → ℕ → Type 0
 Lights p l g y =
-    lightOf p l g y ≡ guard (lightSame p l g y (lightWords (told p l g y)) && apart (told p l g y)) (lightQuiet (told p l g y))
+    lightOf p l g y ≡ guard (lightSame p l g y (told p l g y) && apart (told p l g y)) (lightQuiet (told p l g y))
 
 -- what needs room beside a grant
 beside : (n y : ℕ) → fitsBeside n y ≡ (wide n && (wide y && waitFits (min n 4294967295) (quantaOf y)))
@@ -293,13 +287,13 @@ inside false x y f = refl
 
 module _ (l g y : ℕ) where
   before : Lights 1 l g y
-  unfolding lightOf discoveryOf lighting discovering lightQuiet
+  unfolding lightOf discoveryOf phasing discovering lightQuiet
   before =
       rw (beside g y, rings l 62500000 (omega arith))
       (beside-join (wide l) (wide g) (wide y) (runs (timerOf l) 62500000) (waitFits (min g 4294967295) (quantaOf y)) (quietOf (timerOf l)))
 
   random : Lights 2 l g y
-  unfolding lightOf discoveryOf lighting discovering lightQuiet
+  unfolding lightOf discoveryOf phasing discovering lightQuiet
   random =
       ⊎-elim (λ (h : g < 1).
       let z : g ≡ 0 = omega arith in
@@ -309,21 +303,21 @@ module _ (l g y : ℕ) where
       (cut g 1)
 
   warming : Lights 3 l g y
-  unfolding lightOf discoveryOf lighting discovering lightQuiet
+  unfolding lightOf discoveryOf phasing discovering lightQuiet
   warming = bare l g y 65493 (omega arith)
 
   asking : Lights 4 l g y
-  unfolding lightOf discoveryOf lighting discovering lightQuiet
+  unfolding lightOf discoveryOf phasing discovering lightQuiet
   asking = bare l g y 42 (omega arith)
 
   due : Lights 5 l g y
-  unfolding lightOf lighting lightQuiet
+  unfolding lightOf phasing lightQuiet
   due =
       rw (serves (lower g) y, rings l 2147483647 (omega arith), joined-again g, eq-eqb g g refl)
       (served-join (wide l) (wide y) (runs (timerOf l) 2147483647) (served (record { 0 = lower g }) (quantaOf y)) (quietOf (timerOf l)))
 
   lit : Lights 6 l g y
-  unfolding lightOf lighting lightQuiet laserOnFor
+  unfolding lightOf phasing lightQuiet laserOnFor
   lit =
       let m = (32 + min y 4294967295) % 4294967296 in
       inside (isServed g y) (ringsIn l (32 + y)) (ringsIn l m) (λ h.
@@ -333,12 +327,12 @@ module _ (l g y : ℕ) where
       (beside-join (wide l) (wide g) (wide y) (runs (timerOf l) m) (served (quantaOf g) (quantaOf y)) (quietOf (timerOf l)))
 
   opened : Lights 7 l g y
-  unfolding lightOf lighting lightQuiet
+  unfolding lightOf phasing lightQuiet
   opened = bare l g y 65503 (omega arith)
 
   -- no phase's word
   no-phase : (p : ℕ) → 8 ≤ p → Lights p l g y
-  unfolding lightOf discoveryOf lighting discovering
+  unfolding lightOf discoveryOf phasing discovering
   no-phase p h =
       rw (ne-eqb p 1 (omega arith), ne-eqb p 2 (omega arith), ne-eqb p 3 (omega arith), ne-eqb p 4 (omega arith), ne-eqb p 5 (omega arith), ne-eqb p 6 (omega arith), ne-eqb p 7 (omega arith), ne-eqb 0 p (omega arith))
       (none (eqb g 0 && eqb y 0))

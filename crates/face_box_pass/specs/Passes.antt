@@ -8,7 +8,7 @@ use native.Mathlib.Omega.{arith}
 use borrow.Author.Tests.{ltb-false, le-ltb}
 use lib.Dec.{ltb}
 use lib.ListN.{length, take, drop, getD, replicate, length-take, take-append-drop}
-use Rattle.face_box.specs.Box.{lightWords, frontWords, frontOf, isClear, hasWords, isBox, boxOf, boxIn, boxWords}
+use Rattle.face_box.specs.Box.{frontWords, frontOf, isClear, hasWords, isBox, boxOf, boxIn, boxWords}
 use Rattle.face_box.specs.Listing.{listOf}
 use Rattle.face_box.specs.Laws.{clear-is, words-again}
 use Rattle.clock.specs.Counts.{laterOf}
@@ -18,33 +18,15 @@ use Rattle.box_calls.specs.Leap.{passedOf}
 use Rattle.box_calls.specs.Pass.{quietOf}
 use Rattle.box_grants.specs.Listed.{packed}
 use Rattle.box_light.specs.Pass.{passedOf as lightPassed}
-use Rattle.box_light.specs.declared.Light.{Light}
-use Rattle.box_light.specs.declared.Light.the-variants.{Rest, Before, Random, Warming, Asking, Due, Lit, Open}
 use Rattle.box_processes.specs.Pass.{activates, quietOf as processesQuiet, passedOf as processesPassed}
 use Rattle.box_processes.specs.declared.Processes.{Processes}
 use Rattle.box_registration.specs.Pass.{passedOf as registrationPassed}
 use Rattle.face_words.specs.Laws.{laid-over, same-is}
 use Rattle.face_words.specs.Words.{laid, same}
 use Rattle.face_box_pass.specs.Block.{boxAt}
-use Rattle.face_box_pass.specs.Judged.{told}
 use Rattle.face_box_pass.specs.Laws.{whole}
 use Rattle.face_box_pass.specs.Passing.{movedOf, passedWords}
 use Rattle.face_box_pass.specs.Until.{block, words, spec-is, thirteen}
-
--- the transmitter's timer is passed, where there is one
-light-passed : (l : Light) (k : ℕ)
-    → lightWords (lightPassed l k) ≡ record { phase = lightWords l .phase; left = lightWords l .left - k; grant = lightWords l .grant; sync = lightWords l .sync }
-unfolding lightPassed timerPassed
-light-passed Rest k =
-    let z : 0 - k ≡ 0 = omega arith in
-    rw z
-light-passed (Before t random sync) k = refl
-light-passed (Random t sync) k = refl
-light-passed (Warming t) k = refl
-light-passed (Asking t) k = refl
-light-passed (Due t entry sync) k = refl
-light-passed (Lit t length sync) k = refl
-light-passed (Open t) k = refl
 
 -- a quiet tick's box: activation finds no grant
 emptied : (p : Processes) → 1 ≤ processesQuiet p → activates p ≡ true → p .list .number ≡ 0
@@ -103,10 +85,10 @@ module _ (rest : List ℕ) (a0 a1 a2 a3 a4 a5 a6 a7 a8 a9 a10 a11 a12 : ℕ) (mo
     passed-words : (k : ℕ)
         → boxWords (passedOf (boxIn at) k)
         ≡ later k
-    unfolding boxWords frontWords boxIn boxOf frontOf processesPassed registrationPassed timerPassed laterOf
+    unfolding boxWords frontWords boxIn boxOf frontOf processesPassed registrationPassed lightPassed timerPassed laterOf
     passed-words k =
         let nth : (i : ℕ) → getD (frontWords (frontOf at)) i 0 ≡ getD (take 13 at) i 0 = λ i. ap (λ (l : List ℕ). getD l i 0) is-front in
-        rw (sure .0, kept, light-passed (told a8 a9 a10 a11) k, nth 1, nth 2, nth 3, nth 4, nth 5, nth 6, nth 7, nth 8, nth 9, nth 10, nth 11, words-again (take 16 rest))
+        rw (sure .0, kept, nth 1, nth 2, nth 3, nth 4, nth 5, nth 6, nth 7, nth 8, nth 9, nth 10, nth 11, words-again (take 16 rest))
 
   -- so many quiet ticks in place
   moved : (k : ℕ) → 1 ≤ quietOf (boxIn at)

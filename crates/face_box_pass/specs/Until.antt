@@ -11,9 +11,10 @@ use lib.Dec.{eqb, leb}
 use lib.ListN.{length, take, drop}
 use lib.Seq.{take-take, drop-drop, take-add}
 use Rattle.laws.specs.Cases.{cut}
-use Rattle.face_box.specs.Box.{stateWord, stateOf, registrationOf, lightWords, discoveryOf as discovering, lightOf as lighting, frontWords, frontOf, isClear, hasWords, isBox, boxOf, boxIn}
+use Rattle.face_box.specs.Box.{stateWord, stateOf, registrationOf, phaseWords, discoveryOf as discovering, phaseOf as phasing, lightOf as told, frontWords, frontOf, isClear, hasWords, isBox, boxOf, boxIn}
 use Rattle.face_box.specs.Listing.{listOf}
-use Rattle.clock.specs.Timers.{runs, quietOf as timerQuiet}
+use Rattle.clock.specs.Timers.{off, runs, quietOf as timerQuiet}
+use Rattle.clock.specs.declared.Timer.{Timer}
 use Rattle.clock.specs.Spans.{same}
 use Rattle.face_fields.specs.Fields.{timerOf, quantaOf, spanOf}
 use Rattle.face_words.specs.Words.{upper, lower}
@@ -23,11 +24,11 @@ use Rattle.box_grants.specs.Activation.{holds}
 use Rattle.box_grants.specs.Listed.{listOf as heldIn}
 use Rattle.box_grants.specs.Sound.{inRange, soundOf as listSound}
 use Rattle.box_grants.specs.declared.GrantList.{GrantList}
-use Rattle.box_light.specs.Light.{atRest}
+use Rattle.box_light.specs.Light.{lightIn, atRest}
 use Rattle.box_light.specs.Pass.{quietOf as lightQuiet}
 use Rattle.box_light.specs.Sound.{served, soundOf as lightSound}
 use Rattle.box_light.specs.declared.Light.{Light}
-use Rattle.box_light.specs.declared.Light.the-variants.{Rest}
+use Rattle.box_light.specs.declared.Phase.the-variants.{Rest}
 use Rattle.box_processes.specs.Pass.{activates, quietOf as processesQuiet}
 use Rattle.box_processes.specs.Sound.{restsIn, soundOf as processesSound}
 use Rattle.frame_range.specs.Fits.{isIndividual}
@@ -38,7 +39,7 @@ use Rattle.box_registration.specs.declared.Registration.{Registration}
 use Rattle.box_registration.specs.declared.State.{State}
 use Rattle.box_registration.specs.declared.State.the-variants.{Wait, Registering, RegisterReq, Registered}
 use Rattle.face_box_pass.specs.Block.{boxAt}
-use Rattle.face_box_pass.specs.Judged.{guard, none, inside, wide, fit, timesWords, times-is, apart, lightSame, told, light-is}
+use Rattle.face_box_pass.specs.Judged.{guard, none, inside, wide, fit, timesWords, times-is, unlike, apart, lightSame, light-is}
 use Rattle.face_box_pass.specs.Laws.{whole}
 use Rattle.face_box_pass.specs.Judging.{timesOf, isOwn, areShort, isAmong, areHeld, isListed, shinesOf, judgedOf}
 
@@ -198,17 +199,17 @@ module _ (l g y : ℕ) (s : GrantList) where
   abbrev Judges : ℕ → Type 0
   Judges p =
       (lightSound (told p l g y) s ≡ (apart (told p l g y) && waited p g s))
-      × (lightSame p l g y (lightWords (told p l g y)) ≡ true → atRest (told p l g y) ≡ false)
+      × (lightSame p l g y (told p l g y) ≡ true → atRest (told p l g y) ≡ false)
 
   -- no phase's word
   strange : (p : ℕ) → 8 ≤ p → Judges p
-  unfolding lighting discovering
+  unfolding phasing discovering
   strange p h =
       rw (ne-eqb p 1 (omega arith), ne-eqb p 2 (omega arith), ne-eqb p 3 (omega arith), ne-eqb p 4 (omega arith), ne-eqb p 5 (omega arith), ne-eqb p 6 (omega arith), ne-eqb p 7 (omega arith), ne-eqb 0 p (omega arith))
-      (refl, λ e. absurd (false≢true e))
+      (sym (and-true (off (timerOf l))), λ e. absurd (false≢true e))
 
   phase : (p : ℕ) → (p ≡ 1) ⊎ (p ≡ 2) ⊎ (p ≡ 3) ⊎ (p ≡ 4) ⊎ (p ≡ 6) ⊎ (p ≡ 7) → Judges p
-  unfolding lighting discovering
+  unfolding phasing discovering
   phase p (inl e) = rw e (sym (and-true (apart (told 1 l g y))), λ _. refl)
   phase p (inr (inl e)) = rw e (sym (and-true (apart (told 2 l g y))), λ _. refl)
   phase p (inr (inr (inl e))) = rw e (sym (and-true (apart (told 3 l g y))), λ _. refl)
@@ -217,7 +218,7 @@ module _ (l g y : ℕ) (s : GrantList) where
   phase p (inr (inr (inr (inr (inr e))))) = rw e (sym (and-true (apart (told 7 l g y))), λ _. refl)
 
   due : Judges 5
-  unfolding lighting
+  unfolding phasing
   due = (swapped (runs (timerOf l) (2 ^ 31 - 1)) (holds (spanOf g) (heldIn s)) (served (spanOf g .length) (quantaOf y)), λ _. refl)
 
   judges : (p : ℕ) → 1 ≤ p → Judges p
@@ -333,7 +334,7 @@ module _ (rest : List ℕ) (a0 a1 a2 a3 a4 a5 a6 a7 a8 a9 a10 a11 a12 : ℕ) whe
   timely = timesWords a2 a3 a4 a5 && soundIn (stateOf a2) registration
 
   abbrev shown : Bool
-  shown = lightSame a8 a9 a10 a11 (lightWords light)
+  shown = lightSame a8 a9 a10 a11 light
 
   abbrev listed : Bool
   listed = isClear (drop a12 (take 16 rest)) && (listSound list && (isRegistered (stateOf a2) || eqb a12 0))
@@ -343,7 +344,7 @@ module _ (rest : List ℕ) (a0 a1 a2 a3 a4 a5 a6 a7 a8 a9 a10 a11 a12 : ℕ) whe
   unfolding isBox hasWords frontWords frontOf boxOf soundOf processesSound registrationSound
   judged-is =
       rw (eq-eqb a0 a0 refl, eq-eqb a12 a12 refl, own-is a0 a1 a6 a7)
-      (regrouped (wide a1) (eqb (stateWord (stateOf a2)) a2) (wide a3) (wide a4) (wide a5) (eqb (min a6 65535) a6) (wide a7) (eqb (lightWords light .phase) a8) (eqb (lightWords light .left) a9) (eqb (lightWords light .grant) a10) (eqb (lightWords light .sync) a11) (isClear (drop a12 (take 16 rest))) (isIndividual (record { 0 = a0 })) (soundIn (stateOf a2) registration) (leb (min a7 4294967295) 65535) (listSound list) (isRegistered (stateOf a2) || eqb a12 0) (lightSound light list) (restsIn (stateOf a2) light))
+      (regrouped (wide a1) (eqb (stateWord (stateOf a2)) a2) (wide a3) (wide a4) (wide a5) (eqb (min a6 65535) a6) (wide a7) (eqb (phaseWords (light .phase) .phase) a8) (wide a9) (eqb (phaseWords (light .phase) .grant) a10) (eqb (phaseWords (light .phase) .sync) a11) (isClear (drop a12 (take 16 rest))) (isIndividual (record { 0 = a0 })) (soundIn (stateOf a2) registration) (leb (min a7 4294967295) 65535) (listSound list) (isRegistered (stateOf a2) || eqb a12 0) (lightSound light list) (restsIn (stateOf a2) light))
 
   pub spec-is : quietOf (boxIn words) ≡ guard (isBox words && soundOf (boxOf words)) (processesQuiet (boxOf words .processes))
   unfolding quietOf boxIn soundOf
@@ -417,11 +418,11 @@ zero-test n =
     (λ (h : 1 ≤ n). rw (ne-eqb 0 n (omega arith), ne-eqb n 0 (omega arith)))
     (cut n 1)
 
-rest-rests : (s : State) → restsIn s Rest ≡ true
-rest-rests Wait = refl
-rest-rests Registering = refl
-rest-rests RegisterReq = refl
-rest-rests Registered = refl
+rest-rests : (s : State) (t : Timer) → restsIn s (lightIn Rest t) ≡ true
+rest-rests Wait t = refl
+rest-rests Registering t = refl
+rest-rests RegisterReq t = refl
+rest-rests Registered t = refl
 
 rested : (x y z c : Bool) → (x && (y && (z && (true && c)))) ≡ ((x && (y && z)) && (((c && (true && true)) && true) && true))
 rested true true true true = refl
@@ -446,19 +447,36 @@ module _ (rest : List ℕ) (a0 a1 a2 a3 a4 a5 a6 a7 a9 a10 a11 : ℕ) where
   own = isOwn a0 a1 a6 a7 && timely rest a0 a1 a2 a3 a4 a5 a6 a7 0 a9 a10 a11 0
 
   -- no grant is held
-  clear-is : min (judgedOf (block rest a0 a1 a2 a3 a4 a5 a6 a7 0 a9 a10 a11 0)) 65536 ≡ quietOf (boxIn (words rest a0 a1 a2 a3 a4 a5 a6 a7 0 a9 a10 a11 0))
-  unfolding judgedOf lighting discovering listSound processesQuiet activates boxOf frontOf lightQuiet timerQuiet
-  clear-is =
+  clear-off : a9 ≡ 0 → min (judgedOf (block rest a0 a1 a2 a3 a4 a5 a6 a7 0 a9 a10 a11 0)) 65536 ≡ quietOf (boxIn (words rest a0 a1 a2 a3 a4 a5 a6 a7 0 a9 a10 a11 0))
+  unfolding judgedOf phasing discovering listSound processesQuiet activates boxOf frontOf lightQuiet timerQuiet off
+  clear-off z =
       let r = registrationOf a2 a3 a4 a5 a6 a7 in
-      resting (isOwn a0 a1 a6 a7) (timely rest a0 a1 a2 a3 a4 a5 a6 a7 0 a9 a10 a11 0) (eqb a9 0) (eqb a10 0 && (eqb a11 0 && (true && isClear (take 16 rest)))) (timesOf a2 a3 a4 a5) (registrationQuiet r) (times-is a3 a4 a5 a6 a7 a2)
+      rw z
+      (resting (isOwn a0 a1 a6 a7) (timely rest a0 a1 a2 a3 a4 a5 a6 a7 0 0 a10 a11 0) true (eqb a10 0 && (eqb a11 0 && (true && isClear (take 16 rest)))) (timesOf a2 a3 a4 a5) (registrationQuiet r) (times-is a3 a4 a5 a6 a7 a2)
+      ∙ sym (spec-is rest a0 a1 a2 a3 a4 a5 a6 a7 0 0 a10 a11 0
+      ∙ rw (judged-is rest a0 a1 a2 a3 a4 a5 a6 a7 0 0 a10 a11 0, rest-rests (stateOf a2), or-true (isRegistered (stateOf a2)), zero-test a10, zero-test a11, and-false (isRegistered (stateOf a2)))
+      (ap (λ (t : Bool). guard (own && t) (min (registrationQuiet r) 65536)) (sym (rested true (eqb a10 0) (eqb a11 0) (isClear (take 16 rest)))))))
+
+  -- a timer runs at rest
+  clear-on : 1 ≤ a9 → min (judgedOf (block rest a0 a1 a2 a3 a4 a5 a6 a7 0 a9 a10 a11 0)) 65536 ≡ quietOf (boxIn (words rest a0 a1 a2 a3 a4 a5 a6 a7 0 a9 a10 a11 0))
+  unfolding judgedOf phasing discovering
+  clear-on h =
+      rw (ne-eqb a9 0 (omega arith))
+      (nothing (isOwn a0 a1 a6 a7)
       ∙ sym (spec-is rest a0 a1 a2 a3 a4 a5 a6 a7 0 a9 a10 a11 0
-      ∙ rw (judged-is rest a0 a1 a2 a3 a4 a5 a6 a7 0 a9 a10 a11 0, rest-rests (stateOf a2), or-true (isRegistered (stateOf a2)), zero-test a9, zero-test a10, zero-test a11, and-false (isRegistered (stateOf a2)))
-      (ap (λ (t : Bool). guard (own && t) (min (registrationQuiet r) 65536)) (sym (rested (eqb a9 0) (eqb a10 0) (eqb a11 0) (isClear (take 16 rest))))))
+      ∙ rw (judged-is rest a0 a1 a2 a3 a4 a5 a6 a7 0 a9 a10 a11 0, unlike a9 h) (simp and-false refl)))
+    where
+      nothing : (o : Bool) → min (cond o 0 0) 65536 ≡ 0
+      nothing false = refl
+      nothing true = refl
+
+  clear-is : min (judgedOf (block rest a0 a1 a2 a3 a4 a5 a6 a7 0 a9 a10 a11 0)) 65536 ≡ quietOf (boxIn (words rest a0 a1 a2 a3 a4 a5 a6 a7 0 a9 a10 a11 0))
+  clear-is = ⊎-elim (λ (h : a9 < 1). clear-off (omega arith)) clear-on (cut a9 1)
 
   -- a grant is held: one is to be chosen, or it is held where none may be
   held-off : (a12 : ℕ) → 1 ≤ a12
       → min (judgedOf (block rest a0 a1 a2 a3 a4 a5 a6 a7 0 a9 a10 a11 a12)) 65536 ≡ quietOf (boxIn (words rest a0 a1 a2 a3 a4 a5 a6 a7 0 a9 a10 a11 a12))
-  unfolding judgedOf processesQuiet activates boxOf frontOf lighting discovering
+  unfolding judgedOf processesQuiet activates boxOf frontOf phasing discovering
   held-off a12 h =
       rw (ne-eqb a12 0 (omega arith), and-false (eqb a11 0), and-false (eqb a10 0))
       (nothing (isOwn a0 a1 a6 a7) (eqb a9 0)

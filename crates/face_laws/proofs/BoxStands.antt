@@ -27,14 +27,14 @@ use Rattle.box_laws.specs.Calls.{Outcome, unsound, refuses, accepts, outcome, r
 use Rattle.box_laws.specs.Stated.{Call, answer, Unchanged}
 use Rattle.face_words.specs.Laws.{same-is}
 use Rattle.face_words.specs.Words.{same}
-use Rattle.face_box.specs.Box.{discoveryOf, lightOf, frontWords, frontOf, boxWords, boxOf, isClear, hasWords, isBox, nobody, boxIn}
+use Rattle.face_box.specs.Box.{discoveryOf, phaseOf, frontWords, frontOf, boxWords, boxOf, isClear, hasWords, isBox, nobody, boxIn}
 use Rattle.face_fields.specs.Fields.{spanOf}
 use Rattle.face_box.specs.Laws.{clear-is, words-again}
 use Rattle.face_box.specs.Told.{listed, toldWords}
-use Rattle.face_box.specs.declared.LightWords.{LightWords}
+use Rattle.face_box.specs.declared.PhaseWords.{PhaseWords}
 use Rattle.face_box_calls.specs.Calls.{Left, wordsAt, boxAt, isLent, heardOf, toldOf, handed, settled, boxCall, nextCall}
 use Rattle.face_box_pass.specs.Laws.{whole}
-use Rattle.face_laws.specs.Box.{EntriesFit, LightFits, Fits, Words, Stand, Judging, register, deregister, report, hear, tick, BoxJudged, bare, BoxRefused, BoxReads, BoxRepacked, NobodySends}
+use Rattle.face_laws.specs.Box.{EntriesFit, PhaseFits, Fits, Words, Stand, Judging, register, deregister, report, hear, tick, BoxJudged, bare, BoxRefused, BoxReads, BoxRepacked, NobodySends}
 use Rattle.face_laws.proofs.RoundTrip.{drop-map, map-all, unpacked}
 
 -- WORDS THAT ARE A BOX'S are the words of what they tell, and that fits
@@ -42,16 +42,16 @@ entries-fit : (l : List ℕ) → EntriesFit (map spanOf l)
 entries-fit [] = tt
 entries-fit (x ∷ l) = (omega arith, entries-fit l)
 
-light-fits : (v : LightWords) → LightFits (lightOf v)
-unfolding lightOf discoveryOf
-light-fits v =
-    either LightFits (eqb (v .phase) 5) _ _ (λ _. (omega arith, omega arith, omega arith))
-    (λ _. either LightFits (eqb (v .phase) 6) _ _ (λ _. (omega arith, omega arith, omega arith))
-    (λ _. either LightFits (eqb (v .phase) 7) _ _ (λ _. omega arith)
-    (λ _. either LightFits (eqb (v .phase) 1) _ _ (λ _. (omega arith, omega arith, omega arith))
-    (λ _. either LightFits (eqb (v .phase) 2) _ _ (λ _. (omega arith, omega arith))
-    (λ _. either LightFits (eqb (v .phase) 3) _ _ (λ _. omega arith)
-    (λ _. either LightFits (eqb (v .phase) 4) _ _ (λ _. omega arith) (λ _. tt)))))))
+phase-fits : (v : PhaseWords) → PhaseFits (phaseOf v)
+unfolding phaseOf discoveryOf
+phase-fits v =
+    either PhaseFits (eqb (v .phase) 5) _ _ (λ _. (omega arith, omega arith))
+    (λ _. either PhaseFits (eqb (v .phase) 6) _ _ (λ _. (omega arith, omega arith))
+    (λ _. either PhaseFits (eqb (v .phase) 7) _ _ (λ _. tt)
+    (λ _. either PhaseFits (eqb (v .phase) 1) _ _ (λ _. (omega arith, omega arith))
+    (λ _. either PhaseFits (eqb (v .phase) 2) _ _ (λ _. omega arith)
+    (λ _. either PhaseFits (eqb (v .phase) 3) _ _ (λ _. tt)
+    (λ _. either PhaseFits (eqb (v .phase) 4) _ _ (λ _. tt) (λ _. tt)))))))
 
 module _ (w : List ℕ) (n : length w ≡ 29) (h : isBox w ≡ true) where
   parts : (same (frontWords (frontOf w)) (take 13 w) ≡ true) × (isClear (drop (frontOf w .number) (drop 13 w)) ≡ true)
@@ -86,7 +86,7 @@ module _ (w : List ℕ) (n : length w ≡ 29) (h : isBox w ≡ true) where
         port = omega arith;
         sync = omega arith;
         entries = entries-fit (drop 13 w);
-        light = light-fits _;
+        light = (omega arith, phase-fits _);
         places = length-map (drop 13 w) spanOf ∙ sixteen;
         behind = behind;
       }

@@ -16,10 +16,10 @@ use Rattle.clock.specs.Numbers.{furthestAdvance, inReach, watchdog, periodic, w
 use Rattle.clock.specs.Timers.{off, runs, quietOf as timerQuiet}
 use Rattle.clock.specs.declared.Timer.{Timer}
 use Rattle.frame_range.specs.Fits.{isIndividual}
-use Rattle.box_light.specs.Light.{atRest, timerOf}
+use Rattle.box_light.specs.Laws.{rests-is}
+use Rattle.box_light.specs.Light.{rests, atRest}
 use Rattle.box_light.specs.Pass.{quietOf as lightQuiet}
-use Rattle.box_light.specs.declared.Light.{Light}
-use Rattle.box_light.specs.declared.Light.the-variants.{Rest, Before, Random, Warming, Asking, Due, Lit, Open}
+use Rattle.box_light.specs.declared.Phase.{Phase}
 use Rattle.box_registration.specs.Pass.{quietOf as registrationQuiet}
 use Rattle.box_registration.specs.Registration.{isRegistered}
 use Rattle.box_registration.specs.Sound.{soundIn, soundOf as registrationSound}
@@ -39,7 +39,7 @@ use Rattle.box_calls.specs.Pass.{quietOf}
 use Rattle.box_calls.specs.Turns.{advance-quiet}
 use Rattle.box_calls.specs.declared.FloorBox.{FloorBox}
 use Rattle.face_words.specs.Words.{laid}
-use Rattle.face_box.specs.Box.{stateWord, lightWords, frontWords, boxWords}
+use Rattle.face_box.specs.Box.{stateWord, phaseWords, frontWords, boxWords}
 use Rattle.face_box.specs.Told.{listed, toldWords}
 use Rattle.face_box_calls.specs.Calls.{AdvanceLeft, advanceLeft, boxAt, toldOf, handed, settled, advanceCall, untilCall}
 use Rattle.face_laws.specs.Advance.{BoxAdvance}
@@ -177,25 +177,8 @@ rings-next t u e h =
     (cut (t .left) 1)
 
 -- the words of the transmitter and of the state
-left-word : (l : Light) → lightWords l .left ≡ timerOf l .left
-left-word Rest = refl
-left-word (Before t random sync) = refl
-left-word (Random t sync) = refl
-left-word (Warming t) = refl
-left-word (Asking t) = refl
-left-word (Due t entry sync) = refl
-left-word (Lit t length sync) = refl
-left-word (Open t) = refl
-
-rest-word : (l : Light) → atRest l ≡ true → lightWords l .phase ≡ 0
-rest-word Rest h = refl
-rest-word (Before t random sync) h = absurd (false≢true h)
-rest-word (Random t sync) h = absurd (false≢true h)
-rest-word (Warming t) h = absurd (false≢true h)
-rest-word (Asking t) h = absurd (false≢true h)
-rest-word (Due t entry sync) h = absurd (false≢true h)
-rest-word (Lit t length sync) h = absurd (false≢true h)
-rest-word (Open t) h = absurd (false≢true h)
+rest-word : (p : Phase) → rests p ≡ true → phaseWords p .phase ≡ 0
+rest-word p h = rw (rests-is p h)
 
 registered-word : (s : State) → isRegistered s ≡ true → stateWord s ≡ 3
 registered-word Wait h = absurd (false≢true h)
@@ -222,7 +205,7 @@ module _ (block : List ℕ) (b : FloorBox) (w : take 29 block ≡ boxWords b) wh
       (λ (x : timerQuiet (r .report) ≡ u). inr (inr (inl (word 5 (omega arith) ∙ rings-next (r .report) u x h))))
       (least (timerQuiet (r .watchdog)) (timerQuiet (r .report)) u y))
       (least (timerQuiet (r .wait)) (min (timerQuiet (r .watchdog)) (timerQuiet (r .report))) u f))
-      (λ (f : lightQuiet (p .light) ≡ u). inr (inr (inr (inl (word 9 (omega arith) ∙ left-word (p .light) ∙ rings-next (timerOf (p .light)) u f h)))))
+      (λ (f : lightQuiet (p .light) ≡ u). inr (inr (inr (inl (word 9 (omega arith) ∙ rings-next (p .light .timer) u f h)))))
       (least (registrationQuiet r) (lightQuiet (p .light)) u e)
 
   chosen : (u : ℕ) → (activates p && ltb 0 (p .list .number)) ≡ true → u ≡ 0 → Ends u block
@@ -234,7 +217,7 @@ module _ (block : List ℕ) (b : FloorBox) (w : take 29 block ≡ boxWords b) wh
       inr (inr (inr (inr (
         z,
         word 2 (omega arith) ∙ registered-word (p .registration .state) (g .1),
-        word 8 (omega arith) ∙ rest-word (p .light) (g .0),
+        word 8 (omega arith) ∙ rest-word (p .light .phase) (g .0),
         omega (arith, word 12 (omega arith), n),
       ))))
 

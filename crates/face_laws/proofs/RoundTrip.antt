@@ -12,17 +12,17 @@ use Rattle.clock.specs.declared.Timer.{Timer}
 use Rattle.clock.specs.Spans.{none}
 use Rattle.clock.specs.declared.Span.{Span}
 use Rattle.box_calls.specs.declared.FloorBox.{FloorBox}
-use Rattle.box_light.specs.declared.Light.{Light}
-use Rattle.box_light.specs.declared.Light.the-variants.{Rest, Before, Random, Warming, Asking, Due, Lit, Open}
+use Rattle.box_light.specs.declared.Phase.{Phase}
+use Rattle.box_light.specs.declared.Phase.the-variants.{Rest, Before, Random, Warming, Asking, Due, Lit, Open}
 use Rattle.box_registration.specs.declared.Registration.{Registration}
 use Rattle.box_registration.specs.declared.State.{State}
 use Rattle.box_registration.specs.declared.State.the-variants.{Wait, Registering, RegisterReq, Registered}
 use Rattle.face_words.specs.Laws.{same-self, upper-joined, lower-joined}
 use Rattle.face_words.specs.Words.{narrowed}
-use Rattle.face_box.specs.Box.{stateWord, stateOf, registrationOf, lightWords, discoveryOf, lightOf, frontWords, frontOf, frontIn, boxWords, boxOf, hasWords, isBox, boxIn}
+use Rattle.face_box.specs.Box.{stateWord, stateOf, registrationOf, phaseWords, discoveryOf, phaseOf, frontWords, frontOf, frontIn, boxWords, boxOf, hasWords, isBox, boxIn}
 use Rattle.face_box.specs.Laws.{clear-of}
 use Rattle.face_fields.specs.Fields.{timerOf, quantaOf, shortOf, spanWord, spanOf}
-use Rattle.face_laws.specs.Box.{TimerFits, QuantaFit, EntryFits, EntriesFit, LightFits, Fits}
+use Rattle.face_laws.specs.Box.{TimerFits, QuantaFit, EntryFits, EntriesFit, PhaseFits, Fits}
 
 pub narrow-is : (n : ℕ) → n < 2 ^ 32 → narrowed n ≡ n
 narrow-is n h = omega arith
@@ -50,16 +50,16 @@ state-back Registered = refl
 port-is : (n : ℕ) → n < 2 ^ 16 → shortOf n ≡ n
 port-is n h = omega arith
 
-light-back : (l : Light) → LightFits l → lightOf (lightWords l) ≡ l
-unfolding lightOf discoveryOf
-light-back Rest h = refl
-light-back (Before t random sync) h = rw (timer-back t (h .0), quanta-back random (h .1), quanta-back sync (h .2))
-light-back (Random t sync) h = rw (timer-back t (h .0), quanta-back sync (h .1))
-light-back (Warming t) h = rw (timer-back t h)
-light-back (Asking t) h = rw (timer-back t h)
-light-back (Due t entry sync) h = rw (timer-back t (h .0), entry-back entry (h .1), quanta-back sync (h .2))
-light-back (Lit t n sync) h = rw (timer-back t (h .0), quanta-back n (h .1), quanta-back sync (h .2))
-light-back (Open t) h = rw (timer-back t h)
+phase-back : (p : Phase) → PhaseFits p → phaseOf (phaseWords p) ≡ p
+unfolding phaseOf discoveryOf
+phase-back Rest h = refl
+phase-back (Before random sync) h = rw (quanta-back random (h .0), quanta-back sync (h .1))
+phase-back (Random sync) h = rw (quanta-back sync h)
+phase-back Warming h = refl
+phase-back Asking h = refl
+phase-back (Due entry sync) h = rw (entry-back entry (h .0), quanta-back sync (h .1))
+phase-back (Lit n sync) h = rw (quanta-back n (h .0), quanta-back sync (h .1))
+phase-back Open h = refl
 
 registration-back : (r : Registration) → TimerFits (r .wait) → TimerFits (r .watchdog) → TimerFits (r .report) → r .port < 2 ^ 16
     → QuantaFit (r .sync)
@@ -82,7 +82,8 @@ front-back b h =
     rw (
       narrow-is (p .count .0) (h .count),
       registration-back (p .registration) (h .wait) (h .watchdog) (h .report) (h .port) (h .sync),
-      light-back (p .light) (h .light),
+      phase-back (p .light .phase) (h .light .1),
+      timer-back (p .light .timer) (h .light .0),
     )
 
 front-words : (b : FloorBox) → take 13 (boxWords b) ≡ frontWords (frontIn b)

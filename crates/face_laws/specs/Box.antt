@@ -16,7 +16,8 @@ use Rattle.frame.specs.Card.{numberOf}
 use Rattle.frame_range.specs.Fits.{isIndividual}
 use Rattle.frame_reader.specs.Decode.{readOf}
 use Rattle.box_light.specs.declared.Light.{Light}
-use Rattle.box_light.specs.declared.Light.the-variants.{Rest, Before, Random, Warming, Asking, Due, Lit, Open}
+use Rattle.box_light.specs.declared.Phase.{Phase}
+use Rattle.box_light.specs.declared.Phase.the-variants.{Rest, Before, Random, Warming, Asking, Due, Lit, Open}
 use Rattle.frame_queues.specs.declared.Sets.{Sets}
 use Rattle.box_calls.specs.Box.{soundOf, registerOf, deregisterOf, reportOf, tickOf}
 use Rattle.box_calls.specs.declared.Answer.{Answer}
@@ -39,15 +40,18 @@ abbrev pub EntriesFit : List Span → Type 0
 EntriesFit [] = Unit {0}
 EntriesFit (e ∷ es) = EntryFits e × EntriesFit es
 
+abbrev pub PhaseFits : Phase → Type 0
+PhaseFits Rest = Unit {0}
+PhaseFits (Before random sync) = QuantaFit random × QuantaFit sync
+PhaseFits (Random sync) = QuantaFit sync
+PhaseFits Warming = Unit {0}
+PhaseFits Asking = Unit {0}
+PhaseFits (Due entry sync) = EntryFits entry × QuantaFit sync
+PhaseFits (Lit n sync) = QuantaFit n × QuantaFit sync
+PhaseFits Open = Unit {0}
+
 abbrev pub LightFits : Light → Type 0
-LightFits Rest = Unit {0}
-LightFits (Before t random sync) = TimerFits t × QuantaFit random × QuantaFit sync
-LightFits (Random t sync) = TimerFits t × QuantaFit sync
-LightFits (Warming t) = TimerFits t
-LightFits (Asking t) = TimerFits t
-LightFits (Due t entry sync) = TimerFits t × EntryFits entry × QuantaFit sync
-LightFits (Lit t n sync) = TimerFits t × QuantaFit n × QuantaFit sync
-LightFits (Open t) = TimerFits t
+LightFits l = TimerFits (l .timer) × PhaseFits (l .phase)
 
 -- what the types of the fields see to by themselves, and that nothing stands behind the list in its sixteen places
 pub record Fits (b : FloorBox) : Type 0 where

@@ -24,16 +24,16 @@ use Rattle.box_grants.specs.Sound.{inRange, soundOf as listSound}
 use Rattle.box_grants.specs.declared.GrantList.{GrantList}
 use Rattle.box_light.specs.Laws.{fits-in, served-in}
 use Rattle.box_light.specs.Light.{laserOnFor}
-use Rattle.box_light.specs.Sound.{waitFits, served, soundOf as lightSound}
-use Rattle.box_light.specs.declared.Light.{Light}
-use Rattle.box_light.specs.declared.Light.the-variants.{Rest, Before, Random, Warming, Asking, Due, Lit, Open}
+use Rattle.box_light.specs.Sound.{waitFits, served, soundIn as phaseSound}
+use Rattle.box_light.specs.declared.Phase.{Phase}
+use Rattle.box_light.specs.declared.Phase.the-variants.{Rest, Before, Random, Warming, Asking, Due, Lit, Open}
 use Rattle.box_registration.specs.Sound.{soundIn, soundOf as registrationSound}
 use Rattle.box_registration.specs.declared.Registration.{Registration}
 use Rattle.box_registration.specs.declared.State.{State}
 use Rattle.box_registration.specs.declared.State.the-variants.{Wait, Registering, RegisterReq, Registered}
 use Rattle.box_calls.specs.declared.FloorBox.{FloorBox}
 use Rattle.box_laws.specs.Sound.{Sound}
-use Rattle.face_laws.specs.Box.{TimerFits, EntriesFit, LightFits, Fits}
+use Rattle.face_laws.specs.Box.{TimerFits, EntriesFit, PhaseFits, Fits}
 use Rattle.face_pair.proofs.Neat.{Neat}
 
 -- timers
@@ -78,28 +78,28 @@ on-below : (sync : Quanta) → laserOnFor sync .left < 2 ^ 32
 unfolding laserOnFor
 on-below sync = omega arith
 
-light-fits : (l : Light) (s : GrantList) → lightSound l s ≡ true → LightFits l
-light-fits Rest s h = tt
-light-fits (Before t random sync) s h =
+fits-in-phase : (p : Phase) (t : Timer) (s : GrantList) → phaseSound p t s ≡ true → TimerFits t × PhaseFits p
+fits-in-phase Rest t s h = (off-fits t h, tt)
+fits-in-phase (Before random sync) t s h =
     let p = and-eq-true-iff (runs t furthest) (waitFits (random .0) sync) .0 h in
     let f = fits-in (random .0) sync (p .1) in
-    (runs-fits t furthest (p .0) (omega arith), omega arith, omega arith)
-light-fits (Random t sync) s h =
+    (runs-fits t furthest (p .0) (omega arith), (omega arith, omega arith))
+fits-in-phase (Random sync) t s h =
     let p = and-eq-true-iff (runs t 65535) (waitFits (t .left) sync) .0 h in
     let f = fits-in (t .left) sync (p .1) in
     (runs-fits t 65535 (p .0) (omega arith), omega arith)
-light-fits (Warming t) s h = runs-fits t (65535 - quantaOf 60) h (omega arith)
-light-fits (Asking t) s h = runs-fits t (quantaOf 60) h (omega arith)
-light-fits (Due t entry sync) s h =
+fits-in-phase Warming t s h = (runs-fits t (65535 - quantaOf 60) h (omega arith), tt)
+fits-in-phase Asking t s h = (runs-fits t (quantaOf 60) h (omega arith), tt)
+fits-in-phase (Due entry sync) t s h =
     let p = and-eq-true-iff (runs t (2 ^ 31 - 1) && holds entry (listOf s)) (served (entry .length) sync) .0 h in
     let q = and-eq-true-iff (runs t (2 ^ 31 - 1)) (holds entry (listOf s)) .0 (p .0) in
     let f = served-in (entry .length) sync (p .1) in
-    (runs-fits t (2 ^ 31 - 1) (q .0) (omega arith), omega arith, omega arith)
-light-fits (Lit t n sync) s h =
+    (runs-fits t (2 ^ 31 - 1) (q .0) (omega arith), (omega arith, omega arith))
+fits-in-phase (Lit n sync) t s h =
     let p = and-eq-true-iff (runs t (laserOnFor sync .left)) (served n sync) .0 h in
     let f = served-in n sync (p .1) in
-    (runs-fits t (laserOnFor sync .left) (p .0) (on-below sync), omega arith, omega arith)
-light-fits (Open t) s h = runs-fits t (65535 - laserOn) h (omega arith)
+    (runs-fits t (laserOnFor sync .left) (p .0) (on-below sync), (omega arith, omega arith))
+fits-in-phase Open t s h = (runs-fits t (65535 - laserOn) h (omega arith), tt)
 
 -- the list
 range-fits : (l : List Span) → inRange l ≡ true → EntriesFit l
@@ -139,7 +139,7 @@ box-fits b s w k =
       port = w .port;
       sync = r .1;
       entries = entries-fit (p .list) (w .list) (s .list);
-      light = light-fits (p .light) (p .list) (s .light);
+      light = fits-in-phase (p .light .phase) (p .light .timer) (p .list) (s .light);
       places = s .places;
       behind = none-behind (p .list) (w .list);
     }

@@ -2,6 +2,7 @@
 use crate::calls::Part;
 use box_calls::FloorBox;
 use box_light::Light;
+use box_light::Phase;
 use box_processes::Processes;
 use clock::Timer;
 
@@ -38,7 +39,8 @@ fn with_report(b: FloorBox, left: u32) -> FloorBox {
 fn with_laser(b: FloorBox, left: u32) -> FloorBox {
     let p = b.processes;
     let timer = Timer { left };
-    with_processes(b, p.with_light(Light::Warming { timer }))
+    let phase = Phase::Warming;
+    with_processes(b, p.with_light(Light { phase, timer }))
 }
 
 fn with_held(b: FloorBox, number: usize) -> FloorBox {

@@ -2,6 +2,7 @@
 use box_calls::Answer;
 use box_calls::FloorBox;
 use box_light::Light;
+use box_light::Phase;
 use box_registration::State;
 use box_telling::Frames;
 use box_telling::Notice;
@@ -13,15 +14,16 @@ use script::out;
 
 // The light's phase, by number, so that two can be compared.
 pub fn phase(light: Light) -> u8 {
-    match light {
-        Light::Rest => 0,
-        Light::Before { .. } => 1,
-        Light::Random { .. } => 2,
-        Light::Warming { .. } => 3,
-        Light::Asking { .. } => 4,
-        Light::Due { .. } => 5,
-        Light::Lit { .. } => 6,
-        Light::Open { .. } => 7,
+    let phase = light.phase;
+    match phase {
+        Phase::Rest => 0,
+        Phase::Before { .. } => 1,
+        Phase::Random { .. } => 2,
+        Phase::Warming => 3,
+        Phase::Asking => 4,
+        Phase::Due { .. } => 5,
+        Phase::Lit { .. } => 6,
+        Phase::Open => 7,
     }
 }
 

@@ -29,7 +29,7 @@ abbrev pub Shut : Light → Type 0
 Shut l = Dim (lightTick l .beam)
 
 -- it opens only in REGISTERING
-dim-of : (beam : Beam) (l : Light) (t : State) → isRegistering t ≡ false → Brings beam l t → Dim beam
+dim-of : (beam : Beam) (l : Light) (t : State) → isRegistering t ≡ false → Brings beam (l .phase) t → Dim beam
 dim-of Beam.Quiet l t e b = tt
 dim-of Beam.Window l t e b = absurd (false≢true (sym e ∙ b .0))
 dim-of (Beam.Start entry sync) l t e b = tt

@@ -16,7 +16,7 @@ shine-requires c κs = search needs
 
 returns : tie.Need-returns
 unfolding transmitted
-returns c = rw (c .shine .ensures, c .before .with-light .ensures, c .before .before .tick .ensures)
+returns c = rw (c .shine .ensures, c .before .with-light .ensures, c .before .before .before .tick .ensures)
 
 pub transmitted-spec : {M : Type 1} → statement M
 transmitted-spec = tie.close (tie.spec tick-requires with-light-requires shine-requires returns)

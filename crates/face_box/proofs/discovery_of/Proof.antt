@@ -1,13 +1,10 @@
 -- `face_box::discovery_of` meets its promise.
 -- Assumes nothing.
-use borrow.Author.Needs.{needs}
 use borrow.Author.Tests.{eq-eqb, ne-eqb}
 use Rattle.face_box.specs.Box.{discoveryOf}
+use borrow.Author.Needs.{needs}
 use Rattle.face_box.proofs.discovery_of.Statement.{statement}
 use Rattle.face_box.proofs.discovery_of.Tie as tie
-
-timer-of-requires : tie.Need-timer-of-requires
-timer-of-requires c κs = search needs
 
 quanta-of-requires : tie.Need-quanta-of-requires
 quanta-of-requires c κs = search needs
@@ -17,29 +14,28 @@ quanta-of-requires-2 c κs = search needs
 
 returns : tie.Need-returns
 unfolding discoveryOf
-returns c = rw (c .quanta-of2 .ensures, ← c .before .before .before .timer-of .ensures, ← c .before .before .quanta-of .ensures, eq-eqb _ _ (c .before .if1 .taken))
+returns c = rw (c .quanta-of2 .ensures, ← c .before .before .quanta-of .ensures, eq-eqb _ _ (c .before .if1 .taken))
 
 returns-2 : tie.Need-returns-2
 unfolding discoveryOf
-returns-2 c = rw (← c .before .before .before .timer-of .ensures, ← c .before .before .quanta-of .ensures, ne-eqb _ _ (c .before .if1 .left), eq-eqb _ _ (c .if2 .taken))
+returns-2 c = rw (← c .before .before .quanta-of .ensures, ne-eqb _ _ (c .before .if1 .left), eq-eqb _ _ (c .if2 .taken))
 
 returns-3 : tie.Need-returns-3
 unfolding discoveryOf
-returns-3 c = rw (← c .before .before .before .before .timer-of .ensures, ← c .before .before .before .quanta-of .ensures, ne-eqb _ _ (c .before .before .if1 .left), ne-eqb _ _ (c .before .if2 .left), eq-eqb _ _ (c .if3 .taken))
+returns-3 c = rw (← c .before .before .before .quanta-of .ensures, ne-eqb _ _ (c .before .before .if1 .left), ne-eqb _ _ (c .before .if2 .left), eq-eqb _ _ (c .if3 .taken))
 
 returns-4 : tie.Need-returns-4
 unfolding discoveryOf
-returns-4 c = rw (← c .before .before .before .before .before .timer-of .ensures, ← c .before .before .before .before .quanta-of .ensures, ne-eqb _ _ (c .before .before .before .if1 .left), ne-eqb _ _ (c .before .before .if2 .left), ne-eqb _ _ (c .before .if3 .left), eq-eqb _ _ (c .if4 .taken))
+returns-4 c = rw (← c .before .before .before .before .quanta-of .ensures, ne-eqb _ _ (c .before .before .before .if1 .left), ne-eqb _ _ (c .before .before .if2 .left), ne-eqb _ _ (c .before .if3 .left), eq-eqb _ _ (c .if4 .taken))
 
 returns-5 : tie.Need-returns-5
 unfolding discoveryOf
-returns-5 c = rw (← c .before .before .before .before .before .timer-of .ensures, ← c .before .before .before .before .quanta-of .ensures, ne-eqb _ _ (c .before .before .before .if1 .left), ne-eqb _ _ (c .before .before .if2 .left), ne-eqb _ _ (c .before .if3 .left), ne-eqb _ _ (c .if4 .left))
+returns-5 c = rw (← c .before .before .before .before .quanta-of .ensures, ne-eqb _ _ (c .before .before .before .if1 .left), ne-eqb _ _ (c .before .before .if2 .left), ne-eqb _ _ (c .before .if3 .left), ne-eqb _ _ (c .if4 .left))
 
 pub discovery-of-spec : {M : Type 1} → statement M
 discovery-of-spec =
     tie.close
     (tie.spec
-    timer-of-requires
     quanta-of-requires
     quanta-of-requires-2
     returns

@@ -1,52 +1,20 @@
 -- `face_box::light_of` meets its promise.
 -- Assumes nothing.
 use borrow.Author.Needs.{needs}
-use borrow.Author.Tests.{eq-eqb, ne-eqb}
-use Rattle.face_box.specs.Box.{lightOf}
 use Rattle.face_box.proofs.light_of.Statement.{statement}
 use Rattle.face_box.proofs.light_of.Tie as tie
+
+phase-requires : tie.Need-phase-requires
+phase-requires c κs = search needs
+
+phase-of-requires : tie.Need-phase-of-requires
+phase-of-requires c κs = search needs
 
 timer-of-requires : tie.Need-timer-of-requires
 timer-of-requires c κs = search needs
 
-quanta-of-requires : tie.Need-quanta-of-requires
-quanta-of-requires c κs = search needs
-
-span-of-requires : tie.Need-span-of-requires
-span-of-requires c κs = search needs
-
 returns : tie.Need-returns
-unfolding lightOf
-returns c = rw (c .span-of .ensures, ← c .before .before .before .timer-of .ensures, ← c .before .before .quanta-of .ensures, eq-eqb _ _ (c .before .if1 .taken))
-
-quanta-of-requires-2 : tie.Need-quanta-of-requires-2
-quanta-of-requires-2 c κs = search needs
-
-returns-2 : tie.Need-returns-2
-unfolding lightOf
-returns-2 c = rw (c .quanta-of2 .ensures, ← c .before .before .before .before .timer-of .ensures, ← c .before .before .before .quanta-of .ensures, ne-eqb _ _ (c .before .before .if1 .left), eq-eqb _ _ (c .before .if2 .taken))
-
-returns-3 : tie.Need-returns-3
-unfolding lightOf
-returns-3 c = rw (← c .before .before .before .before .timer-of .ensures, ← c .before .before .before .quanta-of .ensures, ne-eqb _ _ (c .before .before .if1 .left), ne-eqb _ _ (c .before .if2 .left), eq-eqb _ _ (c .if3 .taken))
-
-discovery-of-requires : tie.Need-discovery-of-requires
-discovery-of-requires c κs = search needs
-
-returns-4 : tie.Need-returns-4
-unfolding lightOf
-returns-4 c = rw (c .discovery-of .ensures, ← c .before .before .before .before .before .timer-of .ensures, ← c .before .before .before .before .quanta-of .ensures, ne-eqb _ _ (c .before .before .before .if1 .left), ne-eqb _ _ (c .before .before .if2 .left), ne-eqb _ _ (c .before .if3 .left))
+returns c = rw (c .timer-of .ensures, c .before .phase-of .ensures, c .before .before .phase .ensures)
 
 pub light-of-spec : {M : Type 1} → statement M
-light-of-spec =
-    tie.close
-    (tie.spec
-    timer-of-requires
-    quanta-of-requires
-    span-of-requires
-    returns
-    quanta-of-requires-2
-    returns-2
-    returns-3
-    discovery-of-requires
-    returns-4)
+light-of-spec = tie.close (tie.spec phase-requires phase-of-requires timer-of-requires returns)

@@ -5,18 +5,12 @@ use borrow.Author.Needs.{needs}
 use Rattle.box_light.proofs.Light.passed.Statement.{statement}
 use Rattle.box_light.proofs.Light.passed.Tie as tie
 
-timer-requires : tie.Need-timer-requires
-timer-requires c κs = search needs
-
 passed-requires : tie.Need-passed-requires
 passed-requires c κs = search needs
 
-with-timer-requires : tie.Need-with-timer-requires
-with-timer-requires c κs = search needs
-
 returns : tie.Need-returns
 unfolding passedOf
-returns c = rw (c .with-timer .ensures, c .before .passed .ensures, c .before .before .timer .ensures)
+returns c = rw (c .passed .ensures)
 
 pub passed-spec : {M : Type 1} → statement M
-passed-spec = tie.close (tie.spec timer-requires passed-requires with-timer-requires returns)
+passed-spec = tie.close (tie.spec passed-requires returns)

@@ -5,15 +5,12 @@ use borrow.Author.Needs.{needs}
 use Rattle.box_light.proofs.Light.quiet.Statement.{statement}
 use Rattle.box_light.proofs.Light.quiet.Tie as tie
 
-timer-requires : tie.Need-timer-requires
-timer-requires c κs = search needs
-
 quiet-requires : tie.Need-quiet-requires
 quiet-requires c κs = search needs
 
 returns : tie.Need-returns
 unfolding quietOf
-returns c = rw (c .quiet .ensures, c .before .timer .ensures)
+returns c = c .quiet .ensures
 
 pub quiet-spec : {M : Type 1} → statement M
-quiet-spec = tie.close (tie.spec timer-requires quiet-requires returns)
+quiet-spec = tie.close (tie.spec quiet-requires returns)

@@ -1,8 +1,8 @@
 -- `box_light::Light::randomly` meets its promise.
 -- Assumes nothing.
 use borrow.Author.Tests.{eq-eqb, ne-eqb}
-use borrow.Author.Needs.{needs}
 use Rattle.box_light.specs.Light.{randomly}
+use borrow.Author.Needs.{needs}
 use Rattle.box_light.proofs.Light.randomly.Statement.{statement}
 use Rattle.box_light.proofs.Light.randomly.Tie as tie
 
@@ -24,4 +24,5 @@ unfolding randomly
 returns-2 c = rw (c .start .ensures, ne-eqb _ _ (c .before .before .if1 .left))
 
 pub randomly-spec : {M : Type 1} → statement M
-randomly-spec = tie.close (tie.spec laser-on-requires returns stopped-requires start-requires returns-2)
+randomly-spec =
+    tie.close (tie.spec laser-on-requires returns stopped-requires start-requires returns-2)

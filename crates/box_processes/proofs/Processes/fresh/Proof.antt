@@ -11,8 +11,11 @@ fresh-requires c κs = search needs
 empty-requires : tie.Need-empty-requires
 empty-requires c κs = search needs
 
+resting-requires : tie.Need-resting-requires
+resting-requires c κs = search needs
+
 returns : tie.Need-returns
-returns c = rw (c .empty .ensures, c .before .fresh .ensures)
+returns c = rw (c .resting .ensures, c .before .empty .ensures, c .before .before .fresh .ensures)
 
 pub fresh-spec : {M : Type 1} → statement M
-fresh-spec = tie.close (tie.spec fresh-requires empty-requires returns)
+fresh-spec = tie.close (tie.spec fresh-requires empty-requires resting-requires returns)

@@ -11,8 +11,11 @@ waiting-requires c κs = search needs
 empty-requires : tie.Need-empty-requires
 empty-requires c κs = search needs
 
+resting-requires : tie.Need-resting-requires
+resting-requires c κs = search needs
+
 returns : tie.Need-returns
-returns c = rw (c .empty .ensures, c .before .waiting .ensures)
+returns c = rw (c .resting .ensures, c .before .empty .ensures, c .before .before .waiting .ensures)
 
 pub waiting-spec : {M : Type 1} → statement M
-waiting-spec = tie.close (tie.spec waiting-requires empty-requires returns)
+waiting-spec = tie.close (tie.spec waiting-requires empty-requires resting-requires returns)
