@@ -39,9 +39,9 @@ rest-dark : (p : Phase) → rests p ≡ true → shines p ≡ false
 rest-dark p h = rw (rests-is p h)
 
 -- the last part of a sound box's test
-waits-dark : (p : Processes) → processesSound p ≡ true → restsIn (p .registration .state) (p .light) ≡ true
+rested : (p : Processes) → processesSound p ≡ true → restsIn (p .registration .state) (p .light) ≡ true
 unfolding processesSound
-waits-dark p h =
+rested p h =
     and-eq-true-iff
     (registrationSound (p .registration) && listSound (p .list) && (isRegistered (p .registration .state) || eqb (p .list .number) 0)
     && lightSound (p .light) (p .list))
@@ -51,4 +51,4 @@ pub wait-dark : WaitDark
 unfolding WaitDark soundOf
 wait-dark b s w =
     let h = and-eq-true-iff (isIndividual (b .address)) (processesSound (b .processes)) .0 s .1 in
-    rest-dark (b .processes .light .phase) (rw w at (waits-dark (b .processes) h))
+    rest-dark (b .processes .light .phase) (rw w at (rested (b .processes) h))

@@ -307,19 +307,21 @@ shining true true false false lk t rq lq e = omega arith
 shining true true false true false t rq lq e = omega arith
 shining true true false true true t rq lq e = omega arith
 
-resting : (o tk n c : Bool) (t rq : ℕ) → min t 65536 ≡ guard tk rq
-    → min (cond o (cond n (cond c t 0) 0) 0) 65536 ≡ guard ((o && tk) && (n && c)) (min rq 65536)
-resting false tk n c t rq e = refl
-resting true false false c t rq e = refl
-resting true false true false t rq e = refl
-resting true false true true t rq e = e
-resting true true false c t rq e = refl
-resting true true true false t rq e = refl
-resting true true true true t rq e = omega arith
+resting : (o tk c : Bool) (t rq : ℕ) → min t 65536 ≡ guard tk rq
+    → min (cond o (cond c t 0) 0) 65536 ≡ guard ((o && tk) && c) (min rq 65536)
+resting false tk c t rq e = refl
+resting true false false t rq e = refl
+resting true false true t rq e = e
+resting true true false t rq e = refl
+resting true true true t rq e = omega arith
 
 module _ (rest : List ℕ) (a0 a1 a2 a3 a4 a5 a6 a7 a8 a9 a10 a11 a12 : ℕ) where
   abbrev pub words : List ℕ
   words = a0 ∷ a1 ∷ a2 ∷ a3 ∷ a4 ∷ a5 ∷ a6 ∷ a7 ∷ a8 ∷ a9 ∷ a10 ∷ a11 ∷ a12 ∷ take 16 rest
+
+  -- what the code comes to is what the box says
+  abbrev Comes : Type 0
+  Comes = min (judgedOf (block rest a0 a1 a2 a3 a4 a5 a6 a7 a8 a9 a10 a11 a12)) 65536 ≡ quietOf (boxIn words)
 
   abbrev registration : Registration
   registration = registrationOf a2 a3 a4 a5 a6 a7
@@ -395,7 +397,7 @@ module _ (rest : List ℕ) (a0 a1 a2 a3 a4 a5 a6 a7 a8 a9 a10 a11 a12 : ℕ) whe
         let lit : shown ≡ true = and-eq-true-iff shown more .0 (and-eq-true-iff own (shown && more) .0 all .1) .0 in
         rw (fits .1 lit)
 
-    shines-is : min (judgedOf (block rest a0 a1 a2 a3 a4 a5 a6 a7 a8 a9 a10 a11 a12)) 65536 ≡ quietOf (boxIn words)
+    shines-is : Comes
     unfolding judgedOf shinesOf
     shines-is =
         let own = isOwn a0 a1 a6 a7 in
@@ -424,69 +426,56 @@ rest-rests Registering t = refl
 rest-rests RegisterReq t = refl
 rest-rests Registered t = refl
 
-rested : (x y z c : Bool) → (x && (y && (z && (true && c)))) ≡ ((x && (y && z)) && (((c && (true && true)) && true) && true))
-rested true true true true = refl
-rested true true true false = refl
-rested true true false true = refl
-rested true true false false = refl
-rested true false true true = refl
-rested true false true false = refl
-rested true false false true = refl
-rested true false false false = refl
-rested false true true true = refl
-rested false true true false = refl
-rested false true false true = refl
-rested false true false false = refl
-rested false false true true = refl
-rested false false true false = refl
-rested false false false true = refl
-rested false false false false = refl
+nothing : (o n : Bool) → min (cond o (cond n 0 0) 0) 65536 ≡ 0
+nothing false n = refl
+nothing true false = refl
+nothing true true = refl
+
+rested : (y z c : Bool) → (y && (z && (true && c))) ≡ ((y && z) && (((c && (true && true)) && true) && true))
+rested true true true = refl
+rested true true false = refl
+rested true false true = refl
+rested true false false = refl
+rested false true true = refl
+rested false true false = refl
+rested false false true = refl
+rested false false false = refl
 
 module _ (rest : List ℕ) (a0 a1 a2 a3 a4 a5 a6 a7 a9 a10 a11 : ℕ) where
   abbrev own : Bool
   own = isOwn a0 a1 a6 a7 && timely rest a0 a1 a2 a3 a4 a5 a6 a7 0 a9 a10 a11 0
 
   -- no grant is held
-  clear-off : a9 ≡ 0 → min (judgedOf (block rest a0 a1 a2 a3 a4 a5 a6 a7 0 a9 a10 a11 0)) 65536 ≡ quietOf (boxIn (words rest a0 a1 a2 a3 a4 a5 a6 a7 0 a9 a10 a11 0))
+  clear-off : a9 ≡ 0 → Comes rest a0 a1 a2 a3 a4 a5 a6 a7 0 a9 a10 a11 0
   unfolding judgedOf phasing discovering listSound processesQuiet activates boxOf frontOf lightQuiet timerQuiet off
   clear-off z =
       let r = registrationOf a2 a3 a4 a5 a6 a7 in
       rw z
-      (resting (isOwn a0 a1 a6 a7) (timely rest a0 a1 a2 a3 a4 a5 a6 a7 0 0 a10 a11 0) true (eqb a10 0 && (eqb a11 0 && (true && isClear (take 16 rest)))) (timesOf a2 a3 a4 a5) (registrationQuiet r) (times-is a3 a4 a5 a6 a7 a2)
+      (resting (isOwn a0 a1 a6 a7) (timely rest a0 a1 a2 a3 a4 a5 a6 a7 0 0 a10 a11 0) (eqb a10 0 && (eqb a11 0 && (true && isClear (take 16 rest)))) (timesOf a2 a3 a4 a5) (registrationQuiet r) (times-is a3 a4 a5 a6 a7 a2)
       ∙ sym (spec-is rest a0 a1 a2 a3 a4 a5 a6 a7 0 0 a10 a11 0
       ∙ rw (judged-is rest a0 a1 a2 a3 a4 a5 a6 a7 0 0 a10 a11 0, rest-rests (stateOf a2), or-true (isRegistered (stateOf a2)), zero-test a10, zero-test a11, and-false (isRegistered (stateOf a2)))
-      (ap (λ (t : Bool). guard (own && t) (min (registrationQuiet r) 65536)) (sym (rested true (eqb a10 0) (eqb a11 0) (isClear (take 16 rest)))))))
+      (ap (λ (t : Bool). guard (own && t) (min (registrationQuiet r) 65536)) (sym (rested (eqb a10 0) (eqb a11 0) (isClear (take 16 rest)))))))
 
   -- a timer runs at rest
-  clear-on : 1 ≤ a9 → min (judgedOf (block rest a0 a1 a2 a3 a4 a5 a6 a7 0 a9 a10 a11 0)) 65536 ≡ quietOf (boxIn (words rest a0 a1 a2 a3 a4 a5 a6 a7 0 a9 a10 a11 0))
+  clear-on : 1 ≤ a9 → Comes rest a0 a1 a2 a3 a4 a5 a6 a7 0 a9 a10 a11 0
   unfolding judgedOf phasing discovering
   clear-on h =
       rw (ne-eqb a9 0 (omega arith))
-      (nothing (isOwn a0 a1 a6 a7)
+      (nothing (isOwn a0 a1 a6 a7) false
       ∙ sym (spec-is rest a0 a1 a2 a3 a4 a5 a6 a7 0 a9 a10 a11 0
       ∙ rw (judged-is rest a0 a1 a2 a3 a4 a5 a6 a7 0 a9 a10 a11 0, unlike a9 h) (simp and-false refl)))
-    where
-      nothing : (o : Bool) → min (cond o 0 0) 65536 ≡ 0
-      nothing false = refl
-      nothing true = refl
 
-  clear-is : min (judgedOf (block rest a0 a1 a2 a3 a4 a5 a6 a7 0 a9 a10 a11 0)) 65536 ≡ quietOf (boxIn (words rest a0 a1 a2 a3 a4 a5 a6 a7 0 a9 a10 a11 0))
+  clear-is : Comes rest a0 a1 a2 a3 a4 a5 a6 a7 0 a9 a10 a11 0
   clear-is = ⊎-elim (λ (h : a9 < 1). clear-off (omega arith)) clear-on (cut a9 1)
 
   -- a grant is held: one is to be chosen, or it is held where none may be
-  held-off : (a12 : ℕ) → 1 ≤ a12
-      → min (judgedOf (block rest a0 a1 a2 a3 a4 a5 a6 a7 0 a9 a10 a11 a12)) 65536 ≡ quietOf (boxIn (words rest a0 a1 a2 a3 a4 a5 a6 a7 0 a9 a10 a11 a12))
+  held-off : (a12 : ℕ) → 1 ≤ a12 → Comes rest a0 a1 a2 a3 a4 a5 a6 a7 0 a9 a10 a11 a12
   unfolding judgedOf processesQuiet activates boxOf frontOf phasing discovering
   held-off a12 h =
       rw (ne-eqb a12 0 (omega arith), and-false (eqb a11 0), and-false (eqb a10 0))
       (nothing (isOwn a0 a1 a6 a7) (eqb a9 0)
       ∙ sym (spec-is rest a0 a1 a2 a3 a4 a5 a6 a7 0 a9 a10 a11 a12 ∙ split (isRegistered (stateOf a2)) refl))
     where
-      nothing : (o n : Bool) → min (cond o (cond n 0 0) 0) 65536 ≡ 0
-      nothing false n = refl
-      nothing true false = refl
-      nothing true true = refl
-
       split : (t : Bool) → isRegistered (stateOf a2) ≡ t
           → guard (isBox (words rest a0 a1 a2 a3 a4 a5 a6 a7 0 a9 a10 a11 a12) && soundOf (boxOf (words rest a0 a1 a2 a3 a4 a5 a6 a7 0 a9 a10 a11 a12))) (processesQuiet (boxOf (words rest a0 a1 a2 a3 a4 a5 a6 a7 0 a9 a10 a11 a12) .processes)) ≡ 0
       split true e = rw (e, lt-ltb 0 a12 (omega arith)) (none (isBox (words rest a0 a1 a2 a3 a4 a5 a6 a7 0 a9 a10 a11 a12) && soundOf (boxOf (words rest a0 a1 a2 a3 a4 a5 a6 a7 0 a9 a10 a11 a12))))
@@ -494,7 +483,7 @@ module _ (rest : List ℕ) (a0 a1 a2 a3 a4 a5 a6 a7 a9 a10 a11 : ℕ) where
 
 -- each way
 known : (rest : List ℕ) (a0 a1 a2 a3 a4 a5 a6 a7 a8 a9 a10 a11 a12 : ℕ)
-    → min (judgedOf (block rest a0 a1 a2 a3 a4 a5 a6 a7 a8 a9 a10 a11 a12)) 65536 ≡ quietOf (boxIn (words rest a0 a1 a2 a3 a4 a5 a6 a7 a8 a9 a10 a11 a12))
+    → Comes rest a0 a1 a2 a3 a4 a5 a6 a7 a8 a9 a10 a11 a12
 known rest a0 a1 a2 a3 a4 a5 a6 a7 a8 a9 a10 a11 a12 =
     ⊎-elim (λ (h : a8 < 1).
     let e : a8 ≡ 0 = omega arith in

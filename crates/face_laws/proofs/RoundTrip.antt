@@ -1,7 +1,7 @@
 -- A box that is packed into words and unpacked is the same box, whatever it holds, as long as each number fits its type and nothing stands
 -- behind its list: so a call of the C face on a block that a call left is the core's call on the core's own answer.
 -- Assumes nothing.
-use Prim.Native.Nat.{ℕ, zero, suc, _+_, _-_, _*_, _/_, _%_, _^_, _<_}
+use Prim.Native.Nat.{ℕ, zero, suc, _-_, _^_, _<_}
 use mathlib.Core.Path.{_≡_, refl, ap}
 use mathlib.Core.Bool.{true}
 use mathlib.Core.List.{List, [], _∷_, map}
