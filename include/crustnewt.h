@@ -26,8 +26,9 @@
  * left, 0 when it is stopped; a grant is its start in the upper 32 bits and its length below. Each state has one block of words: what the
  * state or the phase at hand doesn't hold is 0, and so is what stands behind the last grant of a box's list. Words that are no state's (one
  * of these isn't 0, a state or a phase is unknown, a port has more than 16 bits, a count, a time or a length more than 32) are answered
- * CRUSTNEWT_UNSOUND, and so are those of a state that isn't sound. Stored as octets, words are in the machine's order, and only for machines
- * of that order.
+ * CRUSTNEWT_UNSOUND, and so are those of a state that isn't sound: also a box's that a version before 0.5.0 left with its transmitter
+ * not at rest, if a grant has no room there for the laser to go dark. Stored as octets, words are in the machine's order, and only for
+ * machines of that order.
  *
  * TIME. A quantum is 16 bit times, 16 ns at 1 Gbit/s. No core makes a call in each of them: a tick with nothing to do takes some 14 ns at a
  * box and 330 at a head with 64 links, other calls take more. None has to. Head and box have no clock: tell them how many quanta have
@@ -62,10 +63,10 @@ extern "C" {
 #endif
 
 /* The version of the library, as `crustnewt --version` and pkg-config tell it. */
-#define CRUSTNEWT_VERSION "0.4.1"
+#define CRUSTNEWT_VERSION "0.5.0"
 #define CRUSTNEWT_VERSION_MAJOR 0
-#define CRUSTNEWT_VERSION_MINOR 4
-#define CRUSTNEWT_VERSION_PATCH 1
+#define CRUSTNEWT_VERSION_MINOR 5
+#define CRUSTNEWT_VERSION_PATCH 0
 
 /* How many elements to lend. */
 #define CRUSTNEWT_FRAME_OCTETS 60
@@ -139,7 +140,8 @@ enum crustnewt_box_light {
     CRUSTNEWT_BOX_LIGHT_ASKING = 4,  /* discovery: laser on, transmission enabled */
     CRUSTNEWT_BOX_LIGHT_DUE = 5,     /* waits for a normal grant's start */
     CRUSTNEWT_BOX_LIGHT_LIT = 6,     /* a normal grant: laser on */
-    CRUSTNEWT_BOX_LIGHT_OPEN = 7     /* a normal grant: laser on, transmission enabled */
+    CRUSTNEWT_BOX_LIGHT_OPEN = 7,    /* a normal grant: laser on, transmission enabled */
+    CRUSTNEWT_BOX_LIGHT_FADING = 8   /* behind either window: laser ordered off, going dark for 32 quanta */
 };
 
 /* The words that a call of the box tells. */
@@ -159,7 +161,7 @@ enum crustnewt_box_notice {
     CRUSTNEWT_BOX_NOTICE_DEREGISTERED = 5, /* by head, client or watchdog; the box is in WAIT */
     CRUSTNEWT_BOX_NOTICE_GRANT = 6,        /* taken into the list */
     CRUSTNEWT_BOX_NOTICE_OPEN = 7,         /* a normal grant: transmission is enabled */
-    CRUSTNEWT_BOX_NOTICE_CLOSE = 8         /* and over */
+    CRUSTNEWT_BOX_NOTICE_CLOSE = 8         /* and over, 32 quanta before the grant's end */
 };
 
 /* The calls of the box. */
@@ -264,7 +266,7 @@ uint8_t crustnewt_head_fresh(uint64_t address, uint64_t *head, size_t head_words
 
 /* The client opens a discovery window: where the grant starts, its length, the sync time, how long the window is open. CRUSTNEWT_STATE
  * while there is one; CRUSTNEWT_RANGE; CRUSTNEWT_GRANT for a start that is past or more than 62,500,000 ahead, a length below
- * 32 + sync + 42, a window of not 1 to 131,072. */
+ * 32 + sync + 42 + 32, a window of not 1 to 131,072. */
 uint8_t crustnewt_head_open(uint32_t start, uint32_t length, uint32_t sync, uint32_t window, uint64_t *head, size_t head_words,
                             uint64_t *links, size_t links_words, uint8_t *output, size_t output_octets, uint64_t *reply, size_t reply_words);
 

@@ -67,8 +67,8 @@ static uint64_t take_number(unsigned octets)
 /* A word, often one where a field ends. */
 static uint64_t take_word(void)
 {
-    static const uint64_t edges[] = {0, 1, 2, 3, 7, 16, 17, 42, 74, 65535, 65536, 131072, 3125000, 62500000, 0x7FFFFFFF, 0xFFFFFFFF,
-                                     (uint64_t)1 << 32, (uint64_t)1 << 48, UINT64_MAX};
+    static const uint64_t edges[] = {0, 1, 2, 3, 7, 8, 9, 16, 17, 32, 33, 42, 106, 65535, 65536, 131072, 3125000, 62500000, 0x7FFFFFFF,
+                                     0xFFFFFFFF, (uint64_t)1 << 32, (uint64_t)1 << 48, UINT64_MAX};
     uint8_t choice = take();
 
     if (choice < sizeof edges / sizeof *edges)
@@ -182,7 +182,7 @@ static void count(unsigned call, uint64_t number, uint64_t state, uint64_t frame
     uint64_t place = call;
 
     place = place * 16 + number % 16;
-    place = place * 32 + state % 32;
+    place = place * 36 + state % 36;
     place = place * 3 + (frames > 1 ? 2 : frames);
     place = place * 9 + notice % 9;
     place *= 0x9E3779B97F4A7C15;
@@ -202,20 +202,29 @@ static void judge_number(uint8_t number, int is_short)
 /* Whether words are too wide, unknown, or not 0 where nothing is held: then they are no state's. */
 static int is_nobodys_box(const uint64_t *box)
 {
-    static const uint8_t holds_left[] = {0, 1, 1, 1, 1, 1, 1, 1}, holds_grant[] = {0, 1, 0, 0, 0, 1, 1, 0},
-                         holds_sync[] = {0, 1, 1, 0, 0, 1, 1, 0};
+    static const uint8_t holds_left[] = {0, 1, 1, 1, 1, 1, 1, 1, 1}, holds_grant[] = {0, 1, 0, 0, 0, 1, 1, 0, 0},
+                         holds_sync[] = {0, 1, 1, 0, 0, 1, 1, 0, 0};
     uint64_t light = box[CRUSTNEWT_BOX_LIGHT], grant = box[CRUSTNEWT_BOX_LIGHT_GRANT];
 
     for (unsigned i = CRUSTNEWT_BOX_COUNT; i < CRUSTNEWT_BOX_GRANTS; i++)
         if (i != CRUSTNEWT_BOX_LIGHT_GRANT && box[i] > (i == CRUSTNEWT_BOX_PORT ? UINT16_MAX : UINT32_MAX))
             return 1;
-    if (box[CRUSTNEWT_BOX_STATE] > CRUSTNEWT_BOX_STATE_REGISTERED || light > CRUSTNEWT_BOX_LIGHT_OPEN)
+    if (box[CRUSTNEWT_BOX_STATE] > CRUSTNEWT_BOX_STATE_REGISTERED || light > CRUSTNEWT_BOX_LIGHT_FADING)
         return 1;
     for (uint64_t i = CRUSTNEWT_BOX_LIST + box[CRUSTNEWT_BOX_GRANTS] % 17; i < CRUSTNEWT_BOX_WORDS; i++)
         if (box[i] != 0 && box[CRUSTNEWT_BOX_GRANTS] < 17)
             return 1;
     return (!holds_left[light] && box[CRUSTNEWT_BOX_LIGHT_LEFT] != 0) || (!holds_sync[light] && box[CRUSTNEWT_BOX_LIGHT_SYNC] != 0) ||
            (!holds_grant[light] && grant != 0) || (light != CRUSTNEWT_BOX_LIGHT_DUE && grant > UINT32_MAX);
+}
+
+/* Whether a box fades for longer than a laser takes to go dark, or in WAIT: then its state is not sound. */
+static int fades_wrongly(const uint64_t *box)
+{
+    uint64_t left = box[CRUSTNEWT_BOX_LIGHT_LEFT];
+
+    return box[CRUSTNEWT_BOX_LIGHT] == CRUSTNEWT_BOX_LIGHT_FADING &&
+           (left == 0 || left > 32 || box[CRUSTNEWT_BOX_STATE] == CRUSTNEWT_BOX_STATE_WAIT);
 }
 
 static int is_nobodys_head(const uint64_t *head)
@@ -229,11 +238,12 @@ static int is_nobodys_head(const uint64_t *head)
 }
 
 /* A call other than fresh; one that hears may have met with a refusal of the reader's first. */
-static void judge_words(int is_nobodys, int hears, uint8_t number)
+static void judge_words(int is_unsound, int hears, uint8_t number)
 {
     int is_read_first = hears && number >= CRUSTNEWT_SIZE && number <= CRUSTNEWT_RANGE;
 
-    require(!is_nobodys || number == CRUSTNEWT_UNSOUND || number == CRUSTNEWT_SHORT || is_read_first, "words that are no state's are 13");
+    require(!is_unsound || number == CRUSTNEWT_UNSOUND || number == CRUSTNEWT_SHORT || is_read_first,
+            "words that are no sound state's are 13");
     require(!hears || number != CRUSTNEWT_DONE || is_source(source_of(now.heard)), "no group and nobody is heard");
 }
 
@@ -273,7 +283,7 @@ static void judge_box(unsigned call, uint8_t number, int is_short)
     uint64_t frames = now.reply[CRUSTNEWT_BOX_REPLY_FRAMES], notices = now.reply[CRUSTNEWT_BOX_REPLY_NOTICES];
 
     judge_number(number, is_short);
-    judge_words(call != 0 && is_nobodys_box(before.box), call == 3, number);
+    judge_words(call != 0 && (is_nobodys_box(before.box) || fades_wrongly(before.box)), call == 3, number);
     if (number == CRUSTNEWT_SHORT)
         return;
     if (number != CRUSTNEWT_DONE)
@@ -286,9 +296,10 @@ static void judge_box(unsigned call, uint8_t number, int is_short)
     if (call == 0 && number == CRUSTNEWT_RANGE)
         require_zero(now.box, CRUSTNEWT_BOX_WORDS, "a refused fresh box is zeros");
     require(number != CRUSTNEWT_DONE || !is_nobodys_box(now.box), "a call leaves a state");
+    require(number != CRUSTNEWT_DONE || !fades_wrongly(now.box), "a box fades for 32 ticks at most, and not in WAIT");
     allow(now.output, (size_t)frames * CRUSTNEWT_FRAME_OCTETS);
     require_kept("a refusal changes nothing, and what isn't used stays");
-    count(call, number, now.box[CRUSTNEWT_BOX_STATE] * 8 + now.box[CRUSTNEWT_BOX_LIGHT], frames,
+    count(call, number, now.box[CRUSTNEWT_BOX_STATE] * 9 + now.box[CRUSTNEWT_BOX_LIGHT], frames,
           notices > 0 ? now.reply[CRUSTNEWT_BOX_REPLY_NOTICE] : 0);
     hand_over(frames);
 }
@@ -396,6 +407,8 @@ static void call_next(void)
     require(number <= 2 || number == CRUSTNEWT_SHORT, "the next frame is one of three");
     require((number == CRUSTNEWT_SHORT) == (words < CRUSTNEWT_BOX_WORDS), "100 is answered exactly where too little is lent");
     require(!is_nobodys_box(now.box) || number == 0 || number == CRUSTNEWT_SHORT, "nothing goes out for words that are no state's");
+    require(now.box[CRUSTNEWT_BOX_LIGHT] != CRUSTNEWT_BOX_LIGHT_FADING || number == 0 || number == CRUSTNEWT_SHORT,
+            "nothing goes out while the laser goes dark");
     require_kept("asking for the next frame changes nothing");
 }
 
@@ -448,7 +461,7 @@ static uint8_t make_head_call(unsigned call, size_t words, size_t table, size_t 
     case 10:
         return crustnewt_head_fresh(address, now.head, words, now.links, table, now.reply, told);
     case 11:
-        return crustnewt_head_open(start, 74 + sync + small, sync, small, LENT);
+        return crustnewt_head_open(start, 106 + sync + small, sync, small, LENT);
     case 12:
         return crustnewt_head_admit(address, small, sync, LENT);
     case 13:

@@ -1,32 +1,15 @@
 -- Rules R139 to R144: next to send. A slice is where it stands and the octets in it; which is lent is told by where it stands.
 -- Assumes nothing.
 use Prim.Native.Nat.{ℕ}
-use mathlib.Core.Bool.{Bool, true, false, cond, _&&_}
+use mathlib.Core.Bool.{Bool, cond, _&&_}
 use mathlib.Core.List.{List, []}
 use denote.Ref.{RefT}
 use lib.Dec.{eqb, leb, ltb}
 use lib.ListN.{length}
 use Rattle.clock.specs.Numbers.{quantaOf}
-use Rattle.box_light.specs.declared.Light.{Light}
-use Rattle.box_light.specs.declared.Phase.{Phase}
-use Rattle.box_light.specs.declared.Phase.the-variants.{Rest, Before, Random, Warming, Asking, Due, Lit, Open}
+use Rattle.box_light.specs.Light.{remaining}
 use Rattle.box_registration.specs.Registration.{isRegistered}
 use Rattle.box_calls.specs.declared.FloorBox.{FloorBox}
-
--- the phases in which transmission is enabled
-abbrev pub sends : Phase → Bool
-sends Rest = false
-sends (Before random sync) = false
-sends (Random sync) = false
-sends Warming = false
-sends Asking = true
-sends (Due entry sync) = false
-sends (Lit length sync) = false
-sends Open = true
-
--- R143: the ticks that are left to it
-abbrev pub remaining : Light → ℕ
-remaining l = cond (sends (l .phase)) (l .timer .left) 0
 
 -- R143: a frame of n octets fits
 unfoldable pub fitsIn : ℕ → ℕ → Bool

@@ -3,15 +3,14 @@ ghost use mathlib.Core.Path.{_≡_};
 ghost use Rattle.frame.specs.declared.Reply.the-variants.{Done};
 ghost use Rattle.box_calls.specs.Answer.{bare, refused, messageOf, framed, accepted};
 ghost use Rattle.frame_writer.specs.Write.{writeOf};
+ghost use Rattle.box_light.specs.Light.{remaining};
 ghost use Rattle.box_calls.specs.Box.{soundOf, freshOf, registerOf, deregisterOf, reportOf, tickOf};
 ghost use Rattle.laws.specs.Ticks.{ticks};
 ghost use Rattle.box_calls.specs.Advance.{isDone, isSilent, again, out, advanceOf};
 ghost use Rattle.box_calls.specs.Leap.{passedOf, leapOf};
 ghost use Rattle.box_calls.specs.Pass.{quietOf};
 ghost use Rattle.box_calls.specs.Hear.{isDiscovery, isFor, heardOf, hearOf};
-ghost use Rattle.box_calls.specs.Send.{remaining, fitsIn, sendOf};
-use box_light::Light;
-use box_light::Phase;
+ghost use Rattle.box_calls.specs.Send.{fitsIn, sendOf};
 use box_processes::Processes;
 use box_processes::Step;
 use box_telling::Frames;
@@ -357,7 +356,7 @@ impl FloorBox {
     {
         let processes = self.processes;
         let light = processes.light;
-        let octets = 2 * remaining(light) as u64;
+        let octets = 2 * light.remaining() as u64;
         if octets < 24 {
             return false;
         }
@@ -404,22 +403,5 @@ fn is_discovery(body: Body) -> bool
             port: _,
             sync: _,
         } => false,
-    }
-}
-
-// The window's remaining ticks; none while transmission is disabled.
-fn remaining(light: Light) -> u32
-    ensures { λ r. ⌜ r ≡ remaining light ⌝ }
-{
-    let phase = light.phase;
-    match phase {
-        Phase::Rest => 0,
-        Phase::Before { random: _, sync: _ } => 0,
-        Phase::Random { sync: _ } => 0,
-        Phase::Warming => 0,
-        Phase::Asking => light.timer.left,
-        Phase::Due { entry: _, sync: _ } => 0,
-        Phase::Lit { length: _, sync: _ } => 0,
-        Phase::Open => light.timer.left,
     }
 }

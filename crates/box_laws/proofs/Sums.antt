@@ -46,7 +46,7 @@ use Rattle.box_laws.specs.Runs.{run-holds}
 use Rattle.box_laws.specs.Sends.{tick-sends}
 use Rattle.box_laws.specs.Served.{ticksOn, Waits, Serves, GrantServed}
 use Rattle.box_laws.specs.Sound.{count-keeps}
-use Rattle.box_laws.specs.Sums.{Hears, grant, SumEleven, SumTwelve}
+use Rattle.box_laws.specs.Sums.{Hears, grant, Played, SumEleven, SumTwelve}
 use Rattle.box_laws.proofs.Activated.{activate-leaves}
 use Rattle.box_laws.proofs.Served.{tick-is, chosen-one, grant-served}
 
@@ -104,6 +104,11 @@ module _ (b : FloorBox) (m : Message) (random : ℕ) (grants : Grants) (u : Hear
   after-count : hearOf b m random .next .processes .count ≡ record { 0 = 1000 }
   after-count = ap (λ (q : Processes). q .count) heard-is ∙ activate-leaves r .0 ∙ gate-leaves .1
 
+  counted : (k : ℕ) → k ≤ 300 → ticksOn k (hearOf b m random .next) .processes .count ≡ record { 0 = 1000 + k }
+  counted k h =
+      let c = counts k (hearOf b m random .next) (calls b (u .reached) (hear m random)) (rw after-count (omega arith)) in
+      ap (λ (n : ℕ). record { 0 = n }) (c ∙ rw after-count)
+
   after-sync : hearOf b m random .next .processes .registration .sync ≡ record { 0 = 10 }
   after-sync = ap (λ (q : Processes). q .registration .sync) heard-is ∙ rw (activate-leaves r .1, gate-leaves .2) (u .sync)
 
@@ -132,6 +137,9 @@ module _ (b : FloorBox) (m : Message) (random : ℕ) (grants : Grants) (u : Hear
     unfolding GrantServed
     serves = grant-served 100 first (record { 0 = 10 }) (hearOf b m random .next) waits
 
+    played : Played (hearOf b m random .next)
+    played = record { count = counted; lights = serves .lights; tells = serves .tells }
+
 pub sum-eleven : SumEleven
 unfolding SumEleven
 sum-eleven b m random force u =
@@ -139,7 +147,7 @@ sum-eleven b m random force u =
     let e : listOf (r b m random g u .list) ≡ first ∷ [] = gate-holds b m random g u ∙ rw (start-gap 1000 1100) in
     let c = chosen-one 1000 (needed 10) (r b m random g u .list) first e (isPast-near 1000 1100 (omega arith)) (omega arith) in
     let s = serves b m random g u (first ∷ []) c in
-    (s .lights, s .ends (rw (held b m random g u (first ∷ []) c (omega arith))))
+    (played b m random g u (first ∷ []) c, s .ends (rw (held b m random g u (first ∷ []) c (omega arith))))
 
 pub sum-twelve : SumTwelve
 unfolding SumTwelve
@@ -153,9 +161,8 @@ sum-twelve b m random length force other f u =
     chosen-first 1000 (needed 10) (q .list) first x e (isPast-near 1000 1100 (omega arith)) (isPast-near 1000 1300 (omega arith)) n (omega arith) in
     let s = serves b m random g u (first ∷ x ∷ []) c in
     let a = hearOf b m random .next in
-    let later = counts 300 a (calls b (u .reached) (hear m random)) (rw (after-count b m random g u) (omega arith)) in
-    let there : ticksOn 300 a .processes .count .0 ≡ 1300 = later ∙ rw (after-count b m random g u) in
+    let there : ticksOn 300 a .processes .count .0 ≡ 1300 = ap (λ (x : Count). x .0) (counted b m random g u 300 (omega arith)) in
     let sync = after-sync b m random g u in
     let lit =
     s .next x (rw (held b m random g u (first ∷ x ∷ []) c (omega arith))) (rw there (distance-near 1300 1300 (omega arith))) (rw sync f) in
-    (s .lights, lit ∙ ap (λ (q : Quanta). lightIn (Lit (record { 0 = length }) q) (laserOnFor q)) sync)
+    (played b m random g u (first ∷ x ∷ []) c, lit ∙ ap (λ (q : Quanta). lightIn (Lit (record { 0 = length }) q) (laserOnFor q)) sync)

@@ -27,7 +27,7 @@ use Rattle.box_light.specs.Tick.{after, tickOf as lightTick}
 use Rattle.box_light.specs.declared.Beam.{Beam}
 use Rattle.box_light.specs.declared.Light.{Light}
 use Rattle.box_light.specs.declared.Phase.{Phase}
-use Rattle.box_light.specs.declared.Phase.the-variants.{Rest, Before, Random, Warming, Asking, Due, Lit, Open}
+use Rattle.box_light.specs.declared.Phase.the-variants.{Rest, Before, Random, Warming, Asking, Due, Lit, Open, Fading}
 use Rattle.box_light.specs.declared.LightTicked.{LightTicked}
 use Rattle.box_registration.specs.Registration.{isRegistered, isRegistering}
 use Rattle.box_registration.specs.Tick.{tickOf as registrationTick}
@@ -47,45 +47,35 @@ use Rattle.box_hearing.specs.Register.{registerOf}
 use Rattle.box_laws.specs.Tick.{Says, bell-says}
 
 -- a window is on its way while it is waited for, or its laser on
+abbrev awaits : Phase → Bool
+awaits Rest = false
+awaits (Before random sync) = true
+awaits (Random sync) = true
+awaits Warming = true
+awaits Asking = false
+awaits (Due entry sync) = false
+awaits (Lit length sync) = false
+awaits Open = false
+awaits Fading = false
+
 abbrev pub Awaited : Phase → State → Type 0
-Awaited Rest s = Unit {0}
-Awaited (Before random sync) s = isRegistering s ≡ true
-Awaited (Random sync) s = isRegistering s ≡ true
-Awaited Warming s = isRegistering s ≡ true
-Awaited Asking s = Unit {0}
-Awaited (Due entry sync) s = Unit {0}
-Awaited (Lit length sync) s = Unit {0}
-Awaited Open s = Unit {0}
+Awaited p s = awaits p ≡ true → isRegistering s ≡ true
 
 -- of the box
 abbrev pub Calm : Processes → Type 0
 Calm p = Awaited (p .light .phase) (p .registration .state)
 
--- in REGISTERING any phase may be, and where another state was none is on its way
-pub any-awaited : (p : Phase) (s : State) → isRegistering s ≡ true → Awaited p s
-any-awaited Rest s h = tt
-any-awaited (Before random sync) s h = h
-any-awaited (Random sync) s h = h
-any-awaited Warming s h = h
-any-awaited Asking s h = tt
-any-awaited (Due entry sync) s h = tt
-any-awaited (Lit length sync) s h = tt
-any-awaited Open s h = tt
+pub none : {P : Type 0} → false ≡ true → P
+none a = absurd (false≢true a)
 
+-- where a state was other than REGISTERING none is on its way
 none-awaited : (p : Phase) (s t : State) → isRegistering s ≡ false → Awaited p s → Awaited p t
-none-awaited Rest s t e h = tt
-none-awaited (Before random sync) s t e h = absurd (false≢true (sym e ∙ h))
-none-awaited (Random sync) s t e h = absurd (false≢true (sym e ∙ h))
-none-awaited Warming s t e h = absurd (false≢true (sym e ∙ h))
-none-awaited Asking s t e h = tt
-none-awaited (Due entry sync) s t e h = tt
-none-awaited (Lit length sync) s t e h = tt
-none-awaited Open s t e h = tt
+none-awaited p s t e h a = absurd (false≢true (sym e ∙ h a))
 
 -- activation waits for grants alone
 begin-calm : (p : Processes) (e : Span) (sync wait : Quanta) → Calm (begin p e sync wait)
 unfolding begin lightUp
-begin-calm p e sync wait = either Calm (eqb (wait .0) 0) _ _ (λ _. tt) (λ _. tt)
+begin-calm p e sync wait = either Calm (eqb (wait .0) 0) _ _ (λ _. none) (λ _. none)
 
 head-calm : (r : Reach) (p : Processes) (e : Span) (sync : Quanta) → Calm p → Calm (headFor p e sync r)
 head-calm Past p e sync h = h
@@ -106,7 +96,7 @@ ring-calm : (bell : Bell) (p : Processes) (r : Registration) → Calm p → Says
     → Calm (ring bell (withRegistration p r) .next)
 ring-calm Bell.Quiet p r h e = rw e h
 ring-calm Bell.Retry p r h e = none-awaited (p .light .phase) (p .registration .state) (r .state) (rw (e .0)) h
-ring-calm Bell.Lost p r h e = tt
+ring-calm Bell.Lost p r h e = none
 ring-calm Bell.Report p r h e = rw e h
 
 pub timed-calm : (p : Processes) → Calm p → Calm (timed p .next)
@@ -125,14 +115,15 @@ Brings Beam.Closed p s = Awaited p s
 
 after-brings : (p : Phase) (s : State) → Awaited p s → Brings (after p .beam) (after p .light .phase) s
 unfolding randomly
-after-brings Rest s h = tt
+after-brings Rest s h = h
 after-brings (Before random sync) s h = either (λ (l : Light). Awaited (l .phase) s) (eqb (random .0) 0) _ _ (λ _. h) (λ _. h)
 after-brings (Random sync) s h = h
-after-brings Warming s h = (h, tt)
-after-brings Asking s h = tt
+after-brings Warming s h = (h refl, none)
+after-brings Asking s h = h
 after-brings (Due entry sync) s h = tt
-after-brings (Lit length sync) s h = tt
-after-brings Open s h = tt
+after-brings (Lit length sync) s h = h
+after-brings Open s h = h
+after-brings Fading s h = h
 
 pub tick-brings : (l : Light) (s : State) → Awaited (l .phase) s → Brings (lightTick l .beam) (lightTick l .light .phase) s
 unfolding lightTick
@@ -144,7 +135,7 @@ shine-calm : (beam : Beam) (p : Processes) → Brings beam (p .light .phase) (p 
 unfolding lightUp
 shine-calm Beam.Quiet p h = (refl, h)
 shine-calm Beam.Window p h = h
-shine-calm (Beam.Start entry sync) p h = (refl, tt)
+shine-calm (Beam.Start entry sync) p h = (refl, none)
 shine-calm Beam.Opened p h = (refl, h)
 shine-calm Beam.Closed p h = (refl, h)
 
@@ -170,19 +161,17 @@ discover-calm p grant sync own random h =
     let x = atRest (p .light) in
     let fits = startInRange (p .count .0) (grant .start .0) && serves (sync .0) (grant .length .0) in
     either Calm (r && x && fits) _ _
-    (λ t.
-    let l = called (reach (p .count .0) (grant .start .0)) (randomFor own random (grant .length) sync) sync in
-    any-awaited (l .phase) (p .registration .state) (and-eq-true-iff r x .0 (and-eq-true-iff (r && x) fits .0 t .0) .0))
+    (λ t _. and-eq-true-iff r x .0 (and-eq-true-iff (r && x) fits .0 t .0) .0)
     (λ _. h)
 
 register-calm : (t : State) (flag : RegisterFlag) (p : Processes) (port : ℕ) (sync : Quanta) → p .registration .state ≡ t → Calm p
     → Calm (registerOf t flag p port sync .next)
 register-calm RegisterReq Ack p port sync e h = none-awaited (p .light .phase) (p .registration .state) Registered (rw e) h
-register-calm RegisterReq Nack p port sync e h = tt
+register-calm RegisterReq Nack p port sync e h = none
 register-calm RegisterReq Reregister p port sync e h = h
 register-calm RegisterReq Deregister p port sync e h = h
 register-calm Registered Reregister p port sync e h = none-awaited (p .light .phase) (p .registration .state) Registered (rw e) h
-register-calm Registered Deregister p port sync e h = tt
+register-calm Registered Deregister p port sync e h = none
 register-calm Registered Ack p port sync e h = h
 register-calm Registered Nack p port sync e h = h
 register-calm Wait flag p port sync e h = h

@@ -16,7 +16,7 @@ use Rattle.box_calls.specs.Answer.{accepted}
 use Rattle.box_calls.specs.declared.Answer.{Answer}
 use Rattle.box_calls.specs.declared.FloorBox.{FloorBox}
 use Rattle.box_laws.specs.Activation.{activate-keeps}
-use Rattle.box_laws.specs.Awaited.{Calm, any-awaited, activate-calm, tick-calm, hear-calm}
+use Rattle.box_laws.specs.Awaited.{Calm, none, activate-calm, tick-calm, hear-calm}
 use Rattle.box_laws.specs.Calls.{tests, step, Outcome, unsound, refuses, accepts, outcome}
 use Rattle.box_laws.specs.Stated.{Call, register, deregister, report, hear, tick, answer}
 use Rattle.box_laws.specs.Hear.{hear-keeps}
@@ -36,8 +36,8 @@ step-keeps (hear m random) b s h =
 step-keeps tick b s h = tick-keeps (b .processes) s (h .0)
 
 step-calm : (c : Call) (b : FloorBox) → Calm (b .processes) → Calm (step c b .next)
-step-calm register b s = any-awaited (b .processes .light .phase) Registering refl
-step-calm deregister b s = tt
+step-calm register b s = λ _. refl
+step-calm deregister b s = none
 step-calm (report sets) b s = s
 step-calm (hear m random) b s =
     hear-calm (m .body) (withCount (b .processes) (m .timestamp)) (eqb (m .destination .0) (b .address .0)) random s
@@ -62,7 +62,7 @@ pub record Steady (p : Processes) : Type 0 where
 
 -- a fresh box is steady, and every call keeps it so
 pub fresh-steady : Steady fresh
-fresh-steady = record { sound = fresh-sound; awaited = tt }
+fresh-steady = record { sound = fresh-sound; awaited = none }
 
 pub call-steady : (c : Call) (b : FloorBox) → Steady (b .processes) → Steady (answer c b .next .processes)
 call-steady c b s =

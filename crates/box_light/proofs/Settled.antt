@@ -12,6 +12,8 @@ use Rattle.box_light.proofs.Light.at_rest.Kinds as at-rest-kinds
 use Rattle.box_light.proofs.Light.at_rest.Reads as at-rest
 use Rattle.box_light.proofs.Light.sound.Kinds as sound-kinds
 use Rattle.box_light.proofs.Light.sound.Reads as sound
+use Rattle.box_light.proofs.Light.remaining.Kinds as remaining-kinds
+use Rattle.box_light.proofs.Light.remaining.Reads as remaining-reads
 use Rattle.box_light.proofs.Light.tick.Kinds as tick-kinds
 use Rattle.box_light.proofs.Light.tick.Reads as tick
 use Rattle.box_light.proofs.Light.passed.Kinds as passed-kinds
@@ -33,6 +35,9 @@ at-rest-settles κs a e x y p q = p ∙ sym q
 
 pub sound-settles : Settles 0 sound-kinds.ps sound-kinds.r sound.Post
 sound-settles κs a e x y p q = p ∙ sym q
+
+pub remaining-settles : Settles 0 remaining-kinds.ps remaining-kinds.r remaining-reads.Post
+remaining-settles κs a e x y p q = p ∙ sym q
 
 pub tick-settles : Settles 0 tick-kinds.ps tick-kinds.r tick.Post
 tick-settles κs a e x y p q = p ∙ sym q

@@ -10,7 +10,7 @@ use borrow.Author.Tests.{le-leb, leb-true, eqb-false}
 use lib.Dec.{eqb, leb}
 use Rattle.laws.specs.Cases.{either}
 use Rattle.clock.specs.Laws.{runs-in, runs-of, ticked-on, ticked-off, ticked-runs, ticked-quiet, passed-joined, quiet-falls}
-use Rattle.clock.specs.Numbers.{laserOn, furthest, quantaOf, needed, randomWait}
+use Rattle.clock.specs.Numbers.{laserOn, laserOff, furthest, quantaOf, needed, randomWait}
 use Rattle.clock.specs.Timers.{off, runs, ticked}
 use Rattle.clock.specs.declared.Quanta.{Quanta}
 use Rattle.clock.specs.declared.Timer.{Timer}
@@ -18,13 +18,13 @@ use Rattle.clock.specs.declared.Span.{Span}
 use Rattle.box_grants.specs.Activation.{holds}
 use Rattle.box_grants.specs.Listed.{listOf}
 use Rattle.box_grants.specs.declared.GrantList.{GrantList}
-use Rattle.box_light.specs.Light.{resting, laserOnFor, restOf, randomly, rests, atRest}
+use Rattle.box_light.specs.Light.{resting, laserOnFor, openFor, randomly, rests, atRest}
 use Rattle.box_light.specs.Pass.{passedOf, quietOf}
 use Rattle.box_light.specs.Sound.{waitFits, served, soundIn, soundOf}
 use Rattle.box_light.specs.Tick.{after, tickOf}
 use Rattle.box_light.specs.declared.Light.{Light}
 use Rattle.box_light.specs.declared.Phase.{Phase}
-use Rattle.box_light.specs.declared.Phase.the-variants.{Rest, Before, Random, Warming, Asking, Due, Lit, Open}
+use Rattle.box_light.specs.declared.Phase.the-variants.{Rest, Before, Random, Warming, Asking, Due, Lit, Open, Fading}
 use Rattle.box_light.specs.declared.LightTicked.{LightTicked}
 use Rattle.box_light.specs.declared.Beam.{Beam}
 use Rattle.box_light.specs.declared.Beam.the-variants.{Quiet, Window, Start, Opened, Closed}
@@ -67,17 +67,17 @@ on-for : (sync : Quanta) → sync .0 ≤ 65535 → laserOnFor sync .left ≡ las
 unfolding laserOnFor
 on-for sync h = omega arith
 
-warming : (n : ℕ) (sync : Quanta) → waitFits n sync ≡ true → runs (laserOnFor sync) (65535 - quantaOf 60) ≡ true
+warming : (n : ℕ) (sync : Quanta) → waitFits n sync ≡ true → runs (laserOnFor sync) (65535 - quantaOf 60 - laserOff) ≡ true
 warming n sync h =
     let f = fits-in n sync h in
     let on = on-for sync (omega arith) in
-    runs-of (laserOnFor sync) (65535 - quantaOf 60) (omega arith) (omega arith)
+    runs-of (laserOnFor sync) (65535 - quantaOf 60 - laserOff) (omega arith) (omega arith)
 
-opening : (length sync : Quanta) → served length sync ≡ true → runs (restOf length sync) (65535 - laserOn) ≡ true
-unfolding restOf
+opening : (length sync : Quanta) → served length sync ≡ true → runs (openFor length sync) (65535 - laserOn - laserOff) ≡ true
+unfolding openFor
 opening length sync h =
     let f = served-in length sync h in
-    runs-of (record { left = length .0 - (laserOn + sync .0) }) (65535 - laserOn) (omega arith) (omega arith)
+    runs-of (record { left = length .0 - (laserOn + sync .0 + laserOff) }) (65535 - laserOn - laserOff) (omega arith) (omega arith)
 
 -- the phase of rest
 pub rests-is : (p : Phase) → rests p ≡ true → p ≡ Rest
@@ -89,6 +89,7 @@ rests-is Asking h = absurd (false≢true h)
 rests-is (Due entry sync) h = absurd (false≢true h)
 rests-is (Lit length sync) h = absurd (false≢true h)
 rests-is Open h = absurd (false≢true h)
+rests-is Fading h = absurd (false≢true h)
 
 -- at rest no timer runs
 pub rest-off : (l : Light) (s : GrantList) → atRest l ≡ true → soundOf l s ≡ true → off (l .timer) ≡ true
@@ -138,6 +139,7 @@ module _ (s : GrantList) where
   follows (Due entry sync) t h = refl
   follows (Lit length sync) t h = opening length sync (and-eq-true-iff (runs t (laserOnFor sync .left)) (served length sync) .0 h .1)
   follows Open t h = refl
+  follows Fading t h = refl
 
   -- one that has not: the wait that is left is the shorter
   waits : (t : Timer) (sync : Quanta) → runs t 65535 ≡ true → waitFits (t .left) sync ≡ true → waitFits (ticked t .timer .left) sync ≡ true
@@ -154,7 +156,7 @@ module _ (s : GrantList) where
   stays (Random sync) t h e =
       let q = and-eq-true-iff (runs t 65535) (waitFits (t .left) sync) .0 h in
       rw (ticked-runs t 65535 (q .0) e, waits t sync (q .0) (q .1))
-  stays Warming t h e = ticked-runs t (65535 - quantaOf 60) h e
+  stays Warming t h e = ticked-runs t (65535 - quantaOf 60 - laserOff) h e
   stays Asking t h e = ticked-runs t (quantaOf 60) h e
   stays (Due entry sync) t h e =
       let q = due-parts t entry sync s h in
@@ -162,7 +164,8 @@ module _ (s : GrantList) where
   stays (Lit length sync) t h e =
       let q = and-eq-true-iff (runs t (laserOnFor sync .left)) (served length sync) .0 h in
       rw (ticked-runs t (laserOnFor sync .left) (q .0) e, q .1)
-  stays Open t h e = ticked-runs t (65535 - laserOn) h e
+  stays Open t h e = ticked-runs t (65535 - laserOn - laserOff) h e
+  stays Fading t h e = ticked-runs t laserOff h e
 
   pub tick-keeps : (l : Light) → soundOf l s ≡ true → soundOf (tickOf l .light) s ≡ true
   unfolding tickOf
@@ -188,6 +191,7 @@ module _ (s : GrantList) where
       (p .1, p .2)
   after-begins (Lit length sync) t h = tt
   after-begins Open t h = tt
+  after-begins Fading t h = tt
 
   pub tick-begins : (l : Light) → soundOf l s ≡ true → Begins (tickOf l .beam)
   unfolding tickOf
@@ -210,6 +214,7 @@ listed-in (Due entry sync) t s u f h =
     rw (p .0, f entry (p .1), p .2)
 listed-in (Lit length sync) t s u f h = h
 listed-in Open t s u f h = h
+listed-in Fading t s u f h = h
 
 pub sound-list : (l : Light) (s u : GrantList) → ((e : Span) → holds e (listOf s) ≡ true → holds e (listOf u) ≡ true)
     → soundOf l s ≡ true → soundOf l u ≡ true

@@ -3,7 +3,7 @@
 use Prim.Native.Nat.{ℕ, _+_, _-_, _^_}
 use mathlib.Core.Bool.{Bool, _&&_}
 use lib.Dec.{leb}
-use Rattle.clock.specs.Numbers.{laserOn, furthest, most, fits, quantaOf, needed}
+use Rattle.clock.specs.Numbers.{laserOn, laserOff, furthest, most, fits, quantaOf, needed}
 use Rattle.clock.specs.Timers.{off, runs}
 use Rattle.clock.specs.declared.Quanta.{Quanta}
 use Rattle.clock.specs.declared.Timer.{Timer}
@@ -13,7 +13,7 @@ use Rattle.box_grants.specs.declared.GrantList.{GrantList}
 use Rattle.box_light.specs.Light.{laserOnFor}
 use Rattle.box_light.specs.declared.Light.{Light}
 use Rattle.box_light.specs.declared.Phase.{Phase}
-use Rattle.box_light.specs.declared.Phase.the-variants.{Rest, Before, Random, Warming, Asking, Due, Lit, Open}
+use Rattle.box_light.specs.declared.Phase.the-variants.{Rest, Before, Random, Warming, Asking, Due, Lit, Open, Fading}
 
 -- R83: a random wait that a grant can hold beside what it needs
 unfoldable pub waitFits : ℕ → Quanta → Bool
@@ -28,11 +28,12 @@ abbrev pub soundIn : Phase → Timer → GrantList → Bool
 soundIn Rest t s = off t
 soundIn (Before random sync) t s = runs t furthest && waitFits (random .0) sync
 soundIn (Random sync) t s = runs t most && waitFits (t .left) sync
-soundIn Warming t s = runs t (most - quantaOf 60)
+soundIn Warming t s = runs t (most - quantaOf 60 - laserOff)
 soundIn Asking t s = runs t (quantaOf 60)
 soundIn (Due entry sync) t s = runs t (2 ^ 31 - 1) && holds entry (listOf s) && served (entry .length) sync
 soundIn (Lit length sync) t s = runs t (laserOnFor sync .left) && served length sync
-soundIn Open t s = runs t (most - laserOn)
+soundIn Open t s = runs t (most - laserOn - laserOff)
+soundIn Fading t s = runs t laserOff
 
 abbrev pub soundOf : Light → GrantList → Bool
 soundOf l s = soundIn (l .phase) (l .timer) s

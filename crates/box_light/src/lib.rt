@@ -1,6 +1,6 @@
 // The box's transmitter: what it waits for or does, and the timer of that.
 ghost use mathlib.Core.Path.{_≡_};
-ghost use Rattle.box_light.specs.Light.{lightIn, resting, laserOnFor, restOf, rests, atRest, randomly};
+ghost use Rattle.box_light.specs.Light.{lightIn, resting, fading, laserOnFor, openFor, rests, atRest, randomly, remaining};
 ghost use Rattle.box_light.specs.Pass.{passedOf, quietOf};
 ghost use Rattle.box_light.specs.Sound.{waitFits, served, soundIn, soundOf};
 ghost use Rattle.box_light.specs.Tick.{after, tickOf};
@@ -11,7 +11,7 @@ use clock::Span;
 use clock::Timer;
 
 // Discovery: before its start, in the random wait, laser on, transmission enabled. A normal grant: waited for, laser on,
-// transmission enabled.
+// transmission enabled. After both: laser ordered off, which takes its time to go dark.
 pub enum Phase {
     Rest,
     Before { random: Quanta, sync: Quanta },
@@ -21,6 +21,7 @@ pub enum Phase {
     Due { entry: Span, sync: Quanta },
     Lit { length: Quanta, sync: Quanta },
     Open,
+    Fading,
 }
 
 // At rest the timer is stopped; in the other phases it runs.
@@ -56,6 +57,7 @@ impl Phase {
             Phase::Due { entry: _, sync: _ } => false,
             Phase::Lit { length: _, sync: _ } => false,
             Phase::Open => false,
+            Phase::Fading => false,
         }
     }
 
@@ -75,7 +77,7 @@ impl Phase {
                 let timer = Timer::stopped().start(Quanta::FRAME);
                 with_beam(Phase::Asking, timer, Beam::Window)
             }
-            Phase::Asking => with_beam(Phase::Rest, Timer::stopped(), Beam::Quiet),
+            Phase::Asking => order_off(Beam::Quiet),
             Phase::Due { entry, sync } => with_beam(
                 Phase::Rest,
                 Timer::stopped(),
@@ -83,10 +85,11 @@ impl Phase {
             ),
             Phase::Lit { length, sync } => with_beam(
                 Phase::Open,
-                Light::rest(length, sync),
+                Light::open_for(length, sync),
                 Beam::Opened,
             ),
-            Phase::Open => with_beam(Phase::Rest, Timer::stopped(), Beam::Closed),
+            Phase::Open => order_off(Beam::Closed),
+            Phase::Fading => with_beam(Phase::Rest, Timer::stopped(), Beam::Quiet),
         }
     }
 
@@ -110,19 +113,20 @@ impl Phase {
                 timer.runs(Quanta(full.left)) & Light::served(length, sync)
             }
             Phase::Open => timer.runs(Light::LONGEST_OPEN),
+            Phase::Fading => timer.runs(Quanta::LASER_OFF),
         }
     }
 }
 
 impl Light {
-    // The laser of the longest discovery grant that serves: all of it but a frame.
-    const LONGEST_WARMING: Quanta = Quanta(Quanta::MOST.0 - Quanta::FRAME.0);
+    // The laser of the longest discovery grant that serves: all of it but a frame and the laser-off time.
+    const LONGEST_WARMING: Quanta = Quanta(Quanta::MOST.0 - Quanta::FRAME.0 - Quanta::LASER_OFF.0);
 
     // A normal grant's wait: 2^31 - 1.
     const LONGEST_DUE: Quanta = Quanta(0x7FFFFFFF);
 
-    // The longest grant, less the laser-on time.
-    const LONGEST_OPEN: Quanta = Quanta(Quanta::MOST.0 - Quanta::LASER_ON.0);
+    // The longest grant, less the laser-on and laser-off times.
+    const LONGEST_OPEN: Quanta = Quanta(Quanta::MOST.0 - Quanta::LASER_ON.0 - Quanta::LASER_OFF.0);
 
     pub fn resting() -> Light
         ensures { λ r. ⌜ r ≡ resting ⌝ }
@@ -142,12 +146,13 @@ impl Light {
         Timer::stopped().start(Quanta(both))
     }
 
-    // The rest of a grant's length, once its laser is on and has settled.
-    fn rest(length: Quanta, sync: Quanta) -> Timer
-        ensures { λ r. ⌜ r ≡ restOf length sync ⌝ }
+    // What a grant's length leaves to transmission: the laser settles before it and goes dark behind it.
+    fn open_for(length: Quanta, sync: Quanta) -> Timer
+        ensures { λ r. ⌜ r ≡ openFor length sync ⌝ }
     {
         let on = Quanta::LASER_ON;
-        let gone = on.0 as u64 + sync.0 as u64;
+        let off = Quanta::LASER_OFF;
+        let gone = on.0 as u64 + sync.0 as u64 + off.0 as u64;
         let whole = length.0 as u64;
         if gone <= whole {
             let left = (whole - gone) as u32;
@@ -178,6 +183,25 @@ impl Light {
     {
         let phase = self.phase;
         phase.rests()
+    }
+
+    // The ticks that are left to transmission; none while it is disabled.
+    pub fn remaining(self) -> u32
+        ensures { λ r. ⌜ r ≡ remaining self ⌝ }
+    {
+        let phase = self.phase;
+        let timer = self.timer;
+        match phase {
+            Phase::Rest => 0,
+            Phase::Before { random: _, sync: _ } => 0,
+            Phase::Random { sync: _ } => 0,
+            Phase::Warming => 0,
+            Phase::Asking => timer.left,
+            Phase::Due { entry: _, sync: _ } => 0,
+            Phase::Lit { length: _, sync: _ } => 0,
+            Phase::Open => timer.left,
+            Phase::Fading => 0,
+        }
     }
 
     // A random wait, to come or running, that a grant can hold.
@@ -231,6 +255,14 @@ impl Light {
         let timer = self.timer;
         timer.quiet()
     }
+}
+
+// Transmission ends, and the laser goes dark.
+fn order_off(beam: Beam) -> LightTicked
+    ensures { λ r. ⌜ r ≡ record { light = fading; beam = beam } ⌝ }
+{
+    let timer = Timer::stopped().start(Quanta::LASER_OFF);
+    with_beam(Phase::Fading, timer, beam)
 }
 
 fn with_beam(phase: Phase, timer: Timer, beam: Beam) -> LightTicked

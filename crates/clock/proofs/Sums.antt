@@ -43,11 +43,11 @@ pub record Sums : Type 0 where
   pub two : Distance 0 0x80000000 (negℤ (pos (2 ^ 31))) × IsPast 0 0x80000000 true
   pub three : (c : ℕ) → c < 2 ^ 32 → Distance c c (pos 0) × IsPast c c false
   pub four : RoundTrip 3 0xFFFFFFF0 19
-  pub five : (serves 0 74 ≡ true) × (serves 0 73 ≡ false)
+  pub five : (serves 0 106 ≡ true) × (serves 0 105 ≡ false)
   pub six : (length : ℕ) → length < 65536 → serves 65535 length ≡ false
   pub seven : quantaOf 61 ≡ 43
-  pub eight : randomWait 250 174 0 ≡ 48
-  pub nine : randomWait 101 174 0 ≡ 0
+  pub eight : randomWait 250 174 0 ≡ 43
+  pub nine : randomWait 101 174 0 ≡ 32
   pub ten :
       (now start : ℕ) →
       (distance now start ≡ pos 62500000 → startInRange now start ≡ true)

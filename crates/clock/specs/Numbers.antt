@@ -1,4 +1,4 @@
--- Rules R17 to R23, R27 to R29, R47, R109, R192: the numbers, and what is made of them. Lengths are in quanta.
+-- Rules R17 to R23, R27 to R29, R47, R109, R192, R244: the numbers, and what is made of them. Lengths are in quanta.
 -- Assumes nothing.
 use Prim.Native.Nat.{ℕ, _+_, _-_, _/_, _%_}
 use mathlib.Core.Bool.{Bool, _&&_}
@@ -11,6 +11,10 @@ use Rattle.clock.specs.declared.Quanta.{Quanta}
 -- R17
 abbrev pub laserOn : ℕ
 laserOn = 32
+
+-- R244
+abbrev pub laserOff : ℕ
+laserOff = 32
 
 -- R18
 abbrev pub watchdog : ℕ
@@ -53,7 +57,7 @@ quantaOf n = (n + 24 + 1) / 2
 
 -- R28
 abbrev pub needed : ℕ → ℕ
-needed sync = laserOn + sync + quantaOf 60
+needed sync = laserOn + sync + quantaOf 60 + laserOff
 
 -- R28: the length serves
 abbrev pub serves : ℕ → ℕ → Bool

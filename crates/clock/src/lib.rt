@@ -58,6 +58,8 @@ pub enum Reach {
 impl Quanta {
     pub const LASER_ON: Quanta = Quanta(32);
 
+    pub const LASER_OFF: Quanta = Quanta(32);
+
     // A frame of 60 octets.
     pub const FRAME: Quanta = Quanta(42);
 
@@ -77,7 +79,8 @@ impl Quanta {
     {
         let on = Quanta::LASER_ON;
         let frame = Quanta::FRAME;
-        on.0 as u64 + sync.0 as u64 + frame.0 as u64
+        let off = Quanta::LASER_OFF;
+        on.0 as u64 + sync.0 as u64 + frame.0 as u64 + off.0 as u64
     }
 }
 

@@ -10,7 +10,7 @@ use Rattle.box_calls.specs.declared.FloorBox.{FloorBox}
 use Rattle.box_light.specs.Light.{lightIn}
 use Rattle.box_light.specs.declared.Light.{Light}
 use Rattle.box_light.specs.declared.Phase.{Phase}
-use Rattle.box_light.specs.declared.Phase.the-variants.{Rest, Before, Random, Warming, Asking, Due, Lit, Open}
+use Rattle.box_light.specs.declared.Phase.the-variants.{Rest, Before, Random, Warming, Asking, Due, Lit, Open, Fading}
 use Rattle.box_registration.specs.declared.Registration.{Registration}
 use Rattle.box_registration.specs.declared.State.{State}
 use Rattle.box_registration.specs.declared.State.the-variants.{Wait, Registering, RegisterReq, Registered}
@@ -54,6 +54,7 @@ phaseWords Asking = phase 4 0 0
 phaseWords (Due entry sync) = phase 5 (spanWord entry) (sync .0)
 phaseWords (Lit length sync) = phase 6 (length .0) (sync .0)
 phaseWords Open = phase 7 0 0
+phaseWords Fading = phase 8 0 0
 
 -- the phases of discovery; a word that is no phase's is taken as rest
 unfoldable pub discoveryOf : PhaseWords → Phase
@@ -69,7 +70,8 @@ phaseOf w =
     let sync = quantaOf (w .sync) in
     cond (eqb (w .phase) 5) (Due (spanOf (w .grant)) sync)
     (cond (eqb (w .phase) 6) (Lit (quantaOf (w .grant)) sync)
-    (cond (eqb (w .phase) 7) Open (discoveryOf w)))
+    (cond (eqb (w .phase) 7) Open
+    (cond (eqb (w .phase) 8) Fading (discoveryOf w))))
 
 abbrev pub lightOf : ℕ → ℕ → ℕ → ℕ → Light
 lightOf word left grant sync = lightIn (phaseOf (phase word grant sync)) (timerOf left)

@@ -139,6 +139,7 @@ fn phase_words(held: Phase) -> PhaseWords
         Phase::Due { entry, sync } => phase(5, face_fields::span_word(entry), sync.0 as u64),
         Phase::Lit { length, sync } => phase(6, length.0 as u64, sync.0 as u64),
         Phase::Open => phase(7, 0, 0),
+        Phase::Fading => phase(8, 0, 0),
     }
 }
 
@@ -186,6 +187,9 @@ fn phase_of(w: PhaseWords) -> Phase
     }
     if phase == 7 {
         return Phase::Open;
+    }
+    if phase == 8 {
+        return Phase::Fading;
     }
     discovery_of(w)
 }

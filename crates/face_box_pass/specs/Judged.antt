@@ -20,7 +20,7 @@ use Rattle.box_light.specs.Pass.{quietOf as lightQuiet}
 use Rattle.box_light.specs.Sound.{waitFits, served}
 use Rattle.box_light.specs.declared.Light.{Light}
 use Rattle.box_light.specs.declared.Phase.{Phase}
-use Rattle.box_light.specs.declared.Phase.the-variants.{Rest, Before, Random, Warming, Asking, Due, Lit, Open}
+use Rattle.box_light.specs.declared.Phase.the-variants.{Rest, Before, Random, Warming, Asking, Due, Lit, Open, Fading}
 use Rattle.box_registration.specs.Pass.{quietOf as registrationQuiet}
 use Rattle.box_registration.specs.Sound.{soundIn}
 use Rattle.face_box_pass.specs.Judging.{ringsIn, timesOf, fitsBeside, isServed, discoveryOf, lightOf}
@@ -169,11 +169,12 @@ abbrev apartIn : Phase → Timer → Bool
 apartIn Rest t = off t
 apartIn (Before random sync) t = runs t furthest && waitFits (random .0) sync
 apartIn (Random sync) t = runs t 65535 && waitFits (t .left) sync
-apartIn Warming t = runs t 65493
+apartIn Warming t = runs t 65461
 apartIn Asking t = runs t 42
 apartIn (Due entry sync) t = runs t (2 ^ 31 - 1) && served (entry .length) sync
 apartIn (Lit length sync) t = runs t (laserOnFor sync .left) && served length sync
-apartIn Open t = runs t 65503
+apartIn Open t = runs t 65471
+apartIn Fading t = runs t 32
 
 abbrev pub apart : Light → Bool
 apart l = apartIn (l .phase) (l .timer)
@@ -192,31 +193,31 @@ Lights p l g y =
 beside : (n y : ℕ) → fitsBeside n y ≡ (wide n && (wide y && waitFits (min n 4294967295) (quantaOf y)))
 unfolding fitsBeside waitFits
 beside n y =
-    ⊎-elim (λ (h : 65461 < y).
-    rw (lt-ltb 65461 y h, lt-leb (32 + min y 4294967295 + 42 + min n 4294967295) 65535 (omega arith)) (simp and-false refl))
-    (λ (h : y ≤ 65461).
+    ⊎-elim (λ (h : 65429 < y).
+    rw (lt-ltb 65429 y h, lt-leb (32 + min y 4294967295 + 42 + 32 + min n 4294967295) 65535 (omega arith)) (simp and-false refl))
+    (λ (h : y ≤ 65429).
     let e : min y 4294967295 ≡ y = omega arith in
-    ⊎-elim (λ (k : 65461 - y < n).
-    rw (le-ltb 65461 y h, lt-leb n (65461 - y) k, e, lt-leb (32 + y + 42 + min n 4294967295) 65535 (omega arith)) (simp and-false refl))
-    (λ (k : n ≤ 65461 - y).
+    ⊎-elim (λ (k : 65429 - y < n).
+    rw (le-ltb 65429 y h, lt-leb n (65429 - y) k, e, lt-leb (32 + y + 42 + 32 + min n 4294967295) 65535 (omega arith)) (simp and-false refl))
+    (λ (k : n ≤ 65429 - y).
     let f : min n 4294967295 ≡ n = omega arith in
-    rw (le-ltb 65461 y h, le-leb n (65461 - y) k, e, f, eq-eqb y y refl, eq-eqb n n refl, le-leb (32 + y + 42 + n) 65535 (omega arith)))
-    (cut (65461 - y) n))
-    (cut 65461 y)
+    rw (le-ltb 65429 y h, le-leb n (65429 - y) k, e, f, eq-eqb y y refl, eq-eqb n n refl, le-leb (32 + y + 42 + 32 + n) 65535 (omega arith)))
+    (cut (65429 - y) n))
+    (cut 65429 y)
 
 -- a length that serves
 serves : (n y : ℕ) → isServed n y ≡ (wide y && served (record { 0 = n }) (quantaOf y))
 unfolding isServed served
 serves n y =
-    ⊎-elim (λ (h : 65461 < y).
-    ⊎-elim (λ (k : n < 32 + min y 4294967295 + 42). rw (lt-ltb 65461 y h, lt-leb (32 + min y 4294967295 + 42) n k) (simp and-false refl))
-    (λ (k : 32 + min y 4294967295 + 42 ≤ n). rw (lt-ltb 65461 y h, lt-leb n 65535 (omega arith)) (simp and-false refl))
-    (cut n (32 + min y 4294967295 + 42)))
-    (λ (h : y ≤ 65461).
+    ⊎-elim (λ (h : 65429 < y).
+    ⊎-elim (λ (k : n < 32 + min y 4294967295 + 42 + 32). rw (lt-ltb 65429 y h, lt-leb (32 + min y 4294967295 + 42 + 32) n k) (simp and-false refl))
+    (λ (k : 32 + min y 4294967295 + 42 + 32 ≤ n). rw (lt-ltb 65429 y h, lt-leb n 65535 (omega arith)) (simp and-false refl))
+    (cut n (32 + min y 4294967295 + 42 + 32)))
+    (λ (h : y ≤ 65429).
     let e : min y 4294967295 ≡ y = omega arith in
-    let f : 74 + y ≡ 32 + y + 42 = omega arith in
-    rw (le-ltb 65461 y h, e, eq-eqb y y refl, f))
-    (cut 65461 y)
+    let f : 106 + y ≡ 32 + y + 42 + 32 = omega arith in
+    rw (le-ltb 65429 y h, e, eq-eqb y y refl, f))
+    (cut 65429 y)
 
 -- tests in the code's order, and in the page's
 beside-join : (a b c r f : Bool) (q : ℕ) → guard (b && (c && f)) (guard (a && r) q) ≡ guard ((a && (b && c)) && (r && f)) q
@@ -258,9 +259,9 @@ bare l g y m k =
 too-long : (g y : ℕ) → 65535 < g → isServed g y ≡ false
 unfolding isServed
 too-long g y k =
-    either (λ (x : Bool). x ≡ false) (ltb 65461 y) false (leb (74 + y) g && leb g 65535)
+    either (λ (x : Bool). x ≡ false) (ltb 65429 y) false (leb (106 + y) g && leb g 65535)
     (λ _. refl)
-    (λ _. rw (lt-leb g 65535 k) (and-false (leb (74 + y) g)))
+    (λ _. rw (lt-leb g 65535 k) (and-false (leb (106 + y) g)))
 
 -- of a length that serves, both words fit
 serves-wide : (g y : ℕ) → isServed g y ≡ (wide g && (wide y && served (quantaOf g) (quantaOf y)))
@@ -273,12 +274,12 @@ serves-wide g y =
     rw (e, eq-eqb g g refl) (serves g y))
     (cut 4294967295 g)
 
-pub serves-sync : (g y : ℕ) → isServed g y ≡ true → y ≤ 65461
+pub serves-sync : (g y : ℕ) → isServed g y ≡ true → y ≤ 65429
 unfolding isServed
 serves-sync g y =
-    either (λ (x : Bool). x ≡ true → y ≤ 65461) (ltb 65461 y) false (leb (74 + y) g && leb g 65535)
+    either (λ (x : Bool). x ≡ true → y ≤ 65429) (ltb 65429 y) false (leb (106 + y) g && leb g 65535)
     (λ _ f. absurd (false≢true f))
-    (λ f _. ltb-false 65461 y f)
+    (λ f _. ltb-false 65429 y f)
 
 -- what a choice is where its test holds
 pub inside : (t : Bool) (x y : ℕ) → (t ≡ true → x ≡ y) → guard t x ≡ guard t y
@@ -304,7 +305,7 @@ module _ (l g y : ℕ) where
 
   warming : Lights 3 l g y
   unfolding lightOf discoveryOf phasing discovering lightQuiet
-  warming = bare l g y 65493 (omega arith)
+  warming = bare l g y 65461 (omega arith)
 
   asking : Lights 4 l g y
   unfolding lightOf discoveryOf phasing discovering lightQuiet
@@ -328,13 +329,17 @@ module _ (l g y : ℕ) where
 
   opened : Lights 7 l g y
   unfolding lightOf phasing lightQuiet
-  opened = bare l g y 65503 (omega arith)
+  opened = bare l g y 65471 (omega arith)
+
+  fading : Lights 8 l g y
+  unfolding lightOf discoveryOf phasing discovering lightQuiet
+  fading = bare l g y 32 (omega arith)
 
   -- no phase's word
-  no-phase : (p : ℕ) → 8 ≤ p → Lights p l g y
+  no-phase : (p : ℕ) → 9 ≤ p → Lights p l g y
   unfolding lightOf discoveryOf phasing discovering
   no-phase p h =
-      rw (ne-eqb p 1 (omega arith), ne-eqb p 2 (omega arith), ne-eqb p 3 (omega arith), ne-eqb p 4 (omega arith), ne-eqb p 5 (omega arith), ne-eqb p 6 (omega arith), ne-eqb p 7 (omega arith), ne-eqb 0 p (omega arith))
+      rw (ne-eqb p 1 (omega arith), ne-eqb p 2 (omega arith), ne-eqb p 3 (omega arith), ne-eqb p 4 (omega arith), ne-eqb p 5 (omega arith), ne-eqb p 6 (omega arith), ne-eqb p 7 (omega arith), ne-eqb p 8 (omega arith), ne-eqb 0 p (omega arith))
       (none (eqb g 0 && eqb y 0))
 
   pub light-is : (p : ℕ) → 1 ≤ p → Lights p l g y
@@ -370,7 +375,12 @@ module _ (l g y : ℕ) where
       ⊎-elim (λ (k13 : p < 8).
       let e : p ≡ 7 = omega arith in
       rw e opened)
-      (λ (k14 : 8 ≤ p). no-phase p k14)
+      (λ (k14 : 8 ≤ p).
+      ⊎-elim (λ (k15 : p < 9).
+      let e : p ≡ 8 = omega arith in
+      rw e fading)
+      (λ (k16 : 9 ≤ p). no-phase p k16)
+      (cut p 9))
       (cut p 8))
       (cut p 7))
       (cut p 5)

@@ -22,22 +22,22 @@ timesOf state wait watchdog report =
     0)
 
 unfoldable pub fitsBeside : ℕ → ℕ → Bool
-fitsBeside random sync = cond (ltb 65461 sync) false (leb random (65461 - sync))
+fitsBeside random sync = cond (ltb 65429 sync) false (leb random (65429 - sync))
 
 unfoldable pub isServed : ℕ → ℕ → Bool
-isServed length sync = cond (ltb 65461 sync) false (leb (74 + sync) length && leb length 65535)
+isServed length sync = cond (ltb 65429 sync) false (leb (106 + sync) length && leb length 65535)
 
 unfoldable pub discoveryOf : ℕ → ℕ → ℕ → ℕ → ℕ
 discoveryOf phase left grant sync =
     cond (eqb phase 1) (cond (fitsBeside grant sync) (ringsIn left 62500000) 0)
     (cond (eqb phase 2 && eqb grant 0) (cond (fitsBeside left sync) (ringsIn left 65535) 0)
     (cond (eqb grant 0 && eqb sync 0)
-    (cond (eqb phase 3) (ringsIn left 65493) (cond (eqb phase 4) (ringsIn left 42) 0))
+    (cond (eqb phase 3) (ringsIn left 65461) (cond (eqb phase 4) (ringsIn left 42) (cond (eqb phase 8) (ringsIn left 32) 0)))
     0))
 
 unfoldable pub lightOf : ℕ → ℕ → ℕ → ℕ → ℕ
 lightOf phase left grant sync =
-    cond (eqb phase 7) (cond (eqb grant 0 && eqb sync 0) (ringsIn left 65503) 0)
+    cond (eqb phase 7) (cond (eqb grant 0 && eqb sync 0) (ringsIn left 65471) 0)
     (cond (eqb phase 6) (cond (isServed grant sync) (ringsIn left (32 + sync)) 0)
     (cond (eqb phase 5) (cond (isServed (lower grant) sync) (ringsIn left 2147483647) 0)
     (discoveryOf phase left grant sync)))

@@ -202,20 +202,21 @@ module _ (l g y : ℕ) (s : GrantList) where
       × (lightSame p l g y (told p l g y) ≡ true → atRest (told p l g y) ≡ false)
 
   -- no phase's word
-  strange : (p : ℕ) → 8 ≤ p → Judges p
+  strange : (p : ℕ) → 9 ≤ p → Judges p
   unfolding phasing discovering
   strange p h =
-      rw (ne-eqb p 1 (omega arith), ne-eqb p 2 (omega arith), ne-eqb p 3 (omega arith), ne-eqb p 4 (omega arith), ne-eqb p 5 (omega arith), ne-eqb p 6 (omega arith), ne-eqb p 7 (omega arith), ne-eqb 0 p (omega arith))
+      rw (ne-eqb p 1 (omega arith), ne-eqb p 2 (omega arith), ne-eqb p 3 (omega arith), ne-eqb p 4 (omega arith), ne-eqb p 5 (omega arith), ne-eqb p 6 (omega arith), ne-eqb p 7 (omega arith), ne-eqb p 8 (omega arith), ne-eqb 0 p (omega arith))
       (sym (and-true (off (timerOf l))), λ e. absurd (false≢true e))
 
-  phase : (p : ℕ) → (p ≡ 1) ⊎ (p ≡ 2) ⊎ (p ≡ 3) ⊎ (p ≡ 4) ⊎ (p ≡ 6) ⊎ (p ≡ 7) → Judges p
+  phase : (p : ℕ) → (p ≡ 1) ⊎ (p ≡ 2) ⊎ (p ≡ 3) ⊎ (p ≡ 4) ⊎ (p ≡ 6) ⊎ (p ≡ 7) ⊎ (p ≡ 8) → Judges p
   unfolding phasing discovering
   phase p (inl e) = rw e (sym (and-true (apart (told 1 l g y))), λ _. refl)
   phase p (inr (inl e)) = rw e (sym (and-true (apart (told 2 l g y))), λ _. refl)
   phase p (inr (inr (inl e))) = rw e (sym (and-true (apart (told 3 l g y))), λ _. refl)
   phase p (inr (inr (inr (inl e)))) = rw e (sym (and-true (apart (told 4 l g y))), λ _. refl)
   phase p (inr (inr (inr (inr (inl e))))) = rw e (sym (and-true (apart (told 6 l g y))), λ _. refl)
-  phase p (inr (inr (inr (inr (inr e))))) = rw e (sym (and-true (apart (told 7 l g y))), λ _. refl)
+  phase p (inr (inr (inr (inr (inr (inl e)))))) = rw e (sym (and-true (apart (told 7 l g y))), λ _. refl)
+  phase p (inr (inr (inr (inr (inr (inr e)))))) = rw e (sym (and-true (apart (told 8 l g y))), λ _. refl)
 
   due : Judges 5
   unfolding phasing
@@ -241,8 +242,11 @@ module _ (l g y : ℕ) (s : GrantList) where
       (λ (k11 : 6 ≤ p). phase p (inr (inr (inr (inr (inl (omega arith)))))))
       (cut p 6))
       (λ (k12 : 7 ≤ p).
-      ⊎-elim (λ (k13 : p < 8). phase p (inr (inr (inr (inr (inr (omega arith)))))))
-      (λ (k14 : 8 ≤ p). strange p k14)
+      ⊎-elim (λ (k13 : p < 8). phase p (inr (inr (inr (inr (inr (inl (omega arith))))))))
+      (λ (k14 : 8 ≤ p).
+      ⊎-elim (λ (k15 : p < 9). phase p (inr (inr (inr (inr (inr (inr (omega arith))))))))
+      (λ (k16 : 9 ≤ p). strange p k16)
+      (cut p 9))
       (cut p 8))
       (cut p 7))
       (cut p 5)

@@ -23,7 +23,7 @@ const COUNTS: u64 = 0x1_0000_0000;
 // A length, a sync time or a port is sixteen bits; a grant's sync time leaves room for what the grant needs beside it.
 const SIXTEEN_BITS: u64 = 0xFFFF;
 
-const LONGEST_SYNC: u64 = 65_461;
+const LONGEST_SYNC: u64 = 65_429;
 
 // A timer that runs, and has no more left than its longest setting: the ticks before the one at which it rings. None of any other.
 fn rings_in(left: u64, most: u64) -> u64
@@ -78,10 +78,10 @@ fn is_served(length: u64, sync: u64) -> bool
     if LONGEST_SYNC < sync {
         return false;
     }
-    (74 + sync <= length) & (length <= SIXTEEN_BITS)
+    (106 + sync <= length) & (length <= SIXTEEN_BITS)
 }
 
-// The phases of discovery.
+// The phases of discovery, and fading.
 fn discovery(phase: u64, left: u64, grant: u64, sync: u64) -> u64
     ensures { λ r. ⌜ r ≡ discoveryOf phase left grant sync ⌝ }
 {
@@ -99,10 +99,13 @@ fn discovery(phase: u64, left: u64, grant: u64, sync: u64) -> u64
     }
     if (grant == 0) & (sync == 0) {
         if phase == 3 {
-            return rings_in(left, 65_493);
+            return rings_in(left, 65_461);
         }
         if phase == 4 {
             return rings_in(left, 42);
+        }
+        if phase == 8 {
+            return rings_in(left, 32);
         }
     }
     0
@@ -114,7 +117,7 @@ fn light(phase: u64, left: u64, grant: u64, sync: u64) -> u64
 {
     if phase == 7 {
         if (grant == 0) & (sync == 0) {
-            return rings_in(left, 65_503);
+            return rings_in(left, 65_471);
         }
         return 0;
     }

@@ -48,10 +48,11 @@ phase-fits v =
     either PhaseFits (eqb (v .phase) 5) _ _ (λ _. (omega arith, omega arith))
     (λ _. either PhaseFits (eqb (v .phase) 6) _ _ (λ _. (omega arith, omega arith))
     (λ _. either PhaseFits (eqb (v .phase) 7) _ _ (λ _. tt)
+    (λ _. either PhaseFits (eqb (v .phase) 8) _ _ (λ _. tt)
     (λ _. either PhaseFits (eqb (v .phase) 1) _ _ (λ _. (omega arith, omega arith))
     (λ _. either PhaseFits (eqb (v .phase) 2) _ _ (λ _. omega arith)
     (λ _. either PhaseFits (eqb (v .phase) 3) _ _ (λ _. tt)
-    (λ _. either PhaseFits (eqb (v .phase) 4) _ _ (λ _. tt) (λ _. tt)))))))
+    (λ _. either PhaseFits (eqb (v .phase) 4) _ _ (λ _. tt) (λ _. tt))))))))
 
 module _ (w : List ℕ) (n : length w ≡ 29) (h : isBox w ≡ true) where
   parts : (same (frontWords (frontOf w)) (take 13 w) ≡ true) × (isClear (drop (frontOf w .number) (drop 13 w)) ≡ true)

@@ -13,7 +13,7 @@ use Rattle.clock.specs.Spans.{none}
 use Rattle.clock.specs.declared.Span.{Span}
 use Rattle.box_calls.specs.declared.FloorBox.{FloorBox}
 use Rattle.box_light.specs.declared.Phase.{Phase}
-use Rattle.box_light.specs.declared.Phase.the-variants.{Rest, Before, Random, Warming, Asking, Due, Lit, Open}
+use Rattle.box_light.specs.declared.Phase.the-variants.{Rest, Before, Random, Warming, Asking, Due, Lit, Open, Fading}
 use Rattle.box_registration.specs.declared.Registration.{Registration}
 use Rattle.box_registration.specs.declared.State.{State}
 use Rattle.box_registration.specs.declared.State.the-variants.{Wait, Registering, RegisterReq, Registered}
@@ -60,6 +60,7 @@ phase-back Asking h = refl
 phase-back (Due entry sync) h = rw (entry-back entry (h .0), quanta-back sync (h .1))
 phase-back (Lit n sync) h = rw (quanta-back n (h .0), quanta-back sync (h .1))
 phase-back Open h = refl
+phase-back Fading h = refl
 
 registration-back : (r : Registration) → TimerFits (r .wait) → TimerFits (r .watchdog) → TimerFits (r .report) → r .port < 2 ^ 16
     → QuantaFit (r .sync)

@@ -17,7 +17,7 @@ use Rattle.frame_range.specs.Fits.{isIndividual}
 use Rattle.frame_reader.specs.Decode.{readOf}
 use Rattle.box_light.specs.declared.Light.{Light}
 use Rattle.box_light.specs.declared.Phase.{Phase}
-use Rattle.box_light.specs.declared.Phase.the-variants.{Rest, Before, Random, Warming, Asking, Due, Lit, Open}
+use Rattle.box_light.specs.declared.Phase.the-variants.{Rest, Before, Random, Warming, Asking, Due, Lit, Open, Fading}
 use Rattle.frame_queues.specs.declared.Sets.{Sets}
 use Rattle.box_calls.specs.Box.{soundOf, registerOf, deregisterOf, reportOf, tickOf}
 use Rattle.box_calls.specs.declared.Answer.{Answer}
@@ -49,6 +49,7 @@ PhaseFits Asking = Unit {0}
 PhaseFits (Due entry sync) = EntryFits entry × QuantaFit sync
 PhaseFits (Lit n sync) = QuantaFit n × QuantaFit sync
 PhaseFits Open = Unit {0}
+PhaseFits Fading = Unit {0}
 
 abbrev pub LightFits : Light → Type 0
 LightFits l = TimerFits (l .timer) × PhaseFits (l .phase)

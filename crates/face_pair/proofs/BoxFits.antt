@@ -10,7 +10,7 @@ use lib.Dec.{leb}
 use lib.ListN.{length, drop, replicate}
 use lib.Seq.{drop-append-seam}
 use Rattle.clock.specs.Laws.{runs-in}
-use Rattle.clock.specs.Numbers.{watchdog, periodic, wait, furthest, laserOn, quantaOf}
+use Rattle.clock.specs.Numbers.{watchdog, periodic, wait, furthest, laserOn, laserOff, quantaOf}
 use Rattle.clock.specs.Timers.{off, runs}
 use Rattle.clock.specs.declared.Quanta.{Quanta}
 use Rattle.clock.specs.declared.Timer.{Timer}
@@ -26,7 +26,7 @@ use Rattle.box_light.specs.Laws.{fits-in, served-in}
 use Rattle.box_light.specs.Light.{laserOnFor}
 use Rattle.box_light.specs.Sound.{waitFits, served, soundIn as phaseSound}
 use Rattle.box_light.specs.declared.Phase.{Phase}
-use Rattle.box_light.specs.declared.Phase.the-variants.{Rest, Before, Random, Warming, Asking, Due, Lit, Open}
+use Rattle.box_light.specs.declared.Phase.the-variants.{Rest, Before, Random, Warming, Asking, Due, Lit, Open, Fading}
 use Rattle.box_registration.specs.Sound.{soundIn, soundOf as registrationSound}
 use Rattle.box_registration.specs.declared.Registration.{Registration}
 use Rattle.box_registration.specs.declared.State.{State}
@@ -88,7 +88,7 @@ fits-in-phase (Random sync) t s h =
     let p = and-eq-true-iff (runs t 65535) (waitFits (t .left) sync) .0 h in
     let f = fits-in (t .left) sync (p .1) in
     (runs-fits t 65535 (p .0) (omega arith), omega arith)
-fits-in-phase Warming t s h = (runs-fits t (65535 - quantaOf 60) h (omega arith), tt)
+fits-in-phase Warming t s h = (runs-fits t (65535 - quantaOf 60 - laserOff) h (omega arith), tt)
 fits-in-phase Asking t s h = (runs-fits t (quantaOf 60) h (omega arith), tt)
 fits-in-phase (Due entry sync) t s h =
     let p = and-eq-true-iff (runs t (2 ^ 31 - 1) && holds entry (listOf s)) (served (entry .length) sync) .0 h in
@@ -99,7 +99,8 @@ fits-in-phase (Lit n sync) t s h =
     let p = and-eq-true-iff (runs t (laserOnFor sync .left)) (served n sync) .0 h in
     let f = served-in n sync (p .1) in
     (runs-fits t (laserOnFor sync .left) (p .0) (on-below sync), (omega arith, omega arith))
-fits-in-phase Open t s h = (runs-fits t (65535 - laserOn) h (omega arith), tt)
+fits-in-phase Open t s h = (runs-fits t (65535 - laserOn - laserOff) h (omega arith), tt)
+fits-in-phase Fading t s h = (runs-fits t laserOff h (omega arith), tt)
 
 -- the list
 range-fits : (l : List Span) → inRange l ≡ true → EntriesFit l

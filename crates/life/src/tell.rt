@@ -24,6 +24,7 @@ pub fn phase(light: Light) -> u8 {
         Phase::Due { .. } => 5,
         Phase::Lit { .. } => 6,
         Phase::Open => 7,
+        Phase::Fading => 8,
     }
 }
 
@@ -47,7 +48,7 @@ pub fn tell_box(b: FloorBox) {
     out::field(b" count", count.0 as u64);
     tell_state(state);
     out::word(
-        b"rest before random laser asking due lit open",
+        b"rest before random laser asking due lit open fading",
         phase(light),
     );
     out::field(b" held", list.number as u64);

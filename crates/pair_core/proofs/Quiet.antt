@@ -44,7 +44,7 @@ ticksOf (suc k) h = ticksOf k (tickOf h)
 
 -- the call for newcomers: a grant from this count on that just serves, so that there is no random wait, and a window of one tick
 abbrev pub grantAt : Count → Grant
-grantAt start = record { start = start; length = record { 0 = 74 }; force = false }
+grantAt start = record { start = start; length = record { 0 = 106 }; force = false }
 
 abbrev pub sync : Quanta
 sync = record { 0 = 0 }
@@ -53,7 +53,7 @@ abbrev pub window : Quanta
 window = record { 0 = 1 }
 
 abbrev pub opening : Count → Call
-opening start = Call.Open start (record { 0 = 74 }) sync window
+opening start = Call.Open start (record { 0 = 106 }) sync window
 
 abbrev pub openedAt : Count → Head → Head
 openedAt start h = withWindow h (opened (h .count) start window)
@@ -82,7 +82,7 @@ idle-stays (Before t length) i = absurd (false≢true i)
 idle-stays (Inside t) i = absurd (false≢true i)
 
 -- a head may call for newcomers from its own count on
-may-open : (c : Count) → mayOpen c c (record { 0 = 74 }) sync window ≡ true
+may-open : (c : Count) → mayOpen c c (record { 0 = 106 }) sync window ≡ true
 unfolding mayOpen startInRange distance fits
 may-open c = let z : c .0 + 2 ^ 32 - c .0 ≡ 2 ^ 32 = omega arith in rw z
 
@@ -140,7 +140,7 @@ module _ (A : Address) where
           × (calling .sent ≡ encode (discovery (h .count) (s .head)) ∷ [])
       unfolding fitsLengths
       does q =
-          open-sends (q .ready) A (h .count) (record { 0 = 74 }) sync window (rw (q .head) i) refl (rw (q .head) (may-open (h .count))) k
+          open-sends (q .ready) A (h .count) (record { 0 = 106 }) sync window (rw (q .head) i) refl (rw (q .head) (may-open (h .count))) k
 
       pub quiet-opens : Quiet h s
           → Quiet (openedAt (h .count) h) (calling .next) × (calling .sent ≡ encode (discovery (h .count) (s .head)) ∷ [])

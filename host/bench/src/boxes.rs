@@ -13,7 +13,7 @@ use std::hint::black_box;
 /// The box of the measurements, and the first of many.
 pub const BOX: u64 = 0x0200_0000_0031;
 
-/// Ticks after which a box is set back. No window is longer than 65,535.
+/// Ticks after which a box is set back. No window is longer than 65,471.
 const TICKS: u32 = 50_000;
 /// Ticks of a window that is open.
 const WINDOW: u32 = 60_000;

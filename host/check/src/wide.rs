@@ -161,7 +161,7 @@ fn told(asked: &impl Debug, answered: impl Debug) -> String {
 /// The number, or one that doesn't fit 16 bits.
 fn wide(dice: &mut Dice, number: u32) -> u32 {
     match dice.below(3) {
-        0 => dice.pick(&[65_536, 65_537, 1 << 17, u32::MAX, u32::MAX - 73]),
+        0 => dice.pick(&[65_536, 65_537, 1 << 17, u32::MAX, u32::MAX - 105]),
         _ => number,
     }
 }

@@ -7,7 +7,7 @@ use plain::{FloorBox, Head, Light, Window};
 use std::collections::HashSet;
 
 /// What must come about in some advance of a case.
-const EXPECTED: [&str; 36] = [
+const EXPECTED: [&str; 39] = [
     "box is refused with 9",
     "box is refused with 13",
     "box is refused with 14",
@@ -28,7 +28,10 @@ const EXPECTED: [&str; 36] = [
     "silent, before to random",
     "silent, before to warming",
     "silent, random to warming",
-    "silent, asking to rest",
+    "silent, asking to fading",
+    "silent, fading to rest",
+    "silent, fading to due",
+    "silent, fading to lit",
     "silent, due to lit",
     "silent, rest to due",
     "silent, rest to lit",

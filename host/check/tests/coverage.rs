@@ -1,10 +1,11 @@
 //! The cases reach every reply number, notice and phase, every kind of source,
-//! and queue sets that end wherever it counts.
+//! queue sets that end wherever it counts, and whatever comes while light fades.
 
 use check::{compare_wide, script};
 use crustnewt_core::{BoxCore, Core, HeadCore, PlainCore};
 use crustnewt_tool::replay::{parse, replay, Call, Script, Stage};
-use plain::{Address, Body, Frame, LinkState, Message};
+use plain::numbers::needed_length;
+use plain::{Address, Body, BoxState, FloorBox, Frame, Light, LinkState, Message};
 use std::cell::RefCell;
 use std::collections::HashSet;
 
@@ -40,7 +41,10 @@ const EXPECTED: [(&str, &str); 6] = [
         "notice",
         "request registered dropped report window refused retry deregistered grant open close",
     ),
-    ("light", "rest before random warming asking due lit open"),
+    (
+        "light",
+        "rest before random warming asking due lit open fading",
+    ),
     ("next", "control data empty"),
 ];
 
@@ -306,7 +310,144 @@ fn cases_reach_every_end_of_queue_sets() {
         expected.push(format!("read {taken} and pad: 0"));
         expected.push(format!("write {taken} and pad: 4"));
     }
-    let met = reports(1600);
+    let met = reports(6400);
+    expected.retain(|expected| !met.contains(expected));
+    assert!(expected.is_empty(), "no case has: {expected:?}");
+}
+
+/// What a call does to this box, and its reply number; of ticks the first, and
+/// `None` of other calls.
+fn done_to(before: &FloorBox, call: &Call) -> Option<(FloorBox, u8)> {
+    let mut floor_box = *before;
+    let number = match call {
+        Call::BoxHear { random, frame } => BoxCore::hear(&mut floor_box, frame, *random).number,
+        Call::BoxDeregister => BoxCore::deregister(&mut floor_box).number,
+        Call::BoxTick(1..) => BoxCore::tick(&mut floor_box).number,
+        _ => return None,
+    };
+    Some((floor_box, number))
+}
+
+/// What a box hears, and how its state changes, while it fades.
+fn meet_fading(met: &mut Met, before: &FloorBox, call: &Call) {
+    let (Light::Fading { left }, Some((after, number))) = (before.light, done_to(before, call))
+    else {
+        return;
+    };
+    let state = before.state;
+    if after.state != state {
+        let name = after.light.name();
+        met.insert(format!("{state:?} to {:?}: {name}", after.state));
+    }
+    match call {
+        Call::BoxHear { frame, .. } => {
+            match PlainCore.read(frame).map(|message| message.body) {
+                Ok(Body::Discovery { .. }) => {
+                    met.insert(format!("{state:?} hears discovery: {number}"))
+                }
+                Ok(Body::Gate(_)) => met.insert(format!("{state:?} hears a gate: {number}")),
+                _ => false,
+            };
+        }
+        Call::BoxTick(ticks) => {
+            met.insert(format!("{state:?} fades, {left} left: {number}"));
+            if number == 0 && u64::from(left) <= *ticks {
+                meet_dark(met, before, left);
+            }
+        }
+        _ => {}
+    }
+}
+
+/// When the grants of a fading box start, and what it does when it is dark.
+fn meet_dark(met: &mut Met, before: &FloorBox, left: u32) {
+    for grant in before.grants.as_slice() {
+        let ticks = before.count.ticks_until(grant.start);
+        let when = ticks.map(|ticks| ticks.cmp(&left));
+        met.insert(format!("a grant starts, and it is dark: {when:?}"));
+    }
+    let mut after = *before;
+    for _ in 0..left {
+        BoxCore::tick(&mut after);
+    }
+    let name = after.light.name();
+    met.insert(format!("{:?} is dark, then {name}", before.state));
+}
+
+/// Lengths by what they are above the needed one, and what comes of them.
+fn meet_lengths(met: &mut Met, stage: &Stage<'_>, call: &Call) {
+    let before = stage.floor_box.state();
+    match call {
+        Call::HeadOpen(asked) => {
+            let spare = i64::from(asked.grant.length) - i64::from(needed_length(asked.sync));
+            let number = copy(&*stage.head).open_window(asked).number;
+            met.insert(format!("open {spare}: {number}"));
+        }
+        Call::BoxHear { frame, .. } if before.light == Light::Rest => {
+            let Some((after, 0)) = done_to(&before, call) else {
+                return;
+            };
+            let Ok(Body::Discovery { granted, sync }) =
+                PlainCore.read(frame).map(|message| message.body)
+            else {
+                return;
+            };
+            let spare = i64::from(granted.grant.length) - i64::from(needed_length(sync));
+            let acts = after.light != Light::Rest;
+            met.insert(format!("{:?}, discovery {spare}: {acts}", before.state));
+        }
+        Call::BoxTick(1..) if before.light == Light::Rest && before.is_sound() => {
+            for grant in before.grants.as_slice() {
+                let spare = i64::from(grant.length) - i64::from(needed_length(before.sync));
+                met.insert(format!("{:?}, held {spare}", before.state));
+            }
+        }
+        _ => {}
+    }
+}
+
+/// What must come about around fading.
+const FADING: [&str; 18] = [
+    "a grant starts, and it is dark: None",
+    "a grant starts, and it is dark: Some(Less)",
+    "a grant starts, and it is dark: Some(Equal)",
+    "a grant starts, and it is dark: Some(Greater)",
+    "Registered is dark, then rest",
+    "Registered is dark, then due",
+    "Registered is dark, then lit",
+    "Registering is dark, then rest",
+    "Requesting to Registered: fading",
+    "Requesting to Registering: fading",
+    "Requesting to Wait: rest",
+    "Registered to Wait: rest",
+    "Registering hears discovery: 0",
+    "Registered hears a gate: 0",
+    "open -1: 9",
+    "open 0: 0",
+    "Registering, discovery -1: false",
+    "Registering, discovery 0: true",
+];
+
+#[test]
+fn cases_reach_whatever_comes_while_light_fades() {
+    let mut met = Met::new();
+    play(3200, |stage, call| {
+        meet_fading(&mut met, &stage.floor_box.state(), call);
+        meet_lengths(&mut met, stage, call);
+    });
+    let mut expected: Vec<String> = FADING.map(str::to_owned).into();
+    for spare in [-1, 0, 1] {
+        expected.push(format!("Registered, held {spare}"));
+    }
+    for state in [
+        BoxState::Registering,
+        BoxState::Requesting,
+        BoxState::Registered,
+    ] {
+        for left in [1, 2, 31, 32] {
+            expected.push(format!("{state:?} fades, {left} left: 0"));
+        }
+    }
     expected.retain(|expected| !met.contains(expected));
     assert!(expected.is_empty(), "no case has: {expected:?}");
 }

@@ -19,11 +19,11 @@
 //! let sent = head.open_window(&OpenWindow { grant, sync: 0, window: 400 })?;
 //! floor_box.hear(&sent.frames()[0], 250)?;
 //!
-//! // 100 to the start, 48 of random wait, 32 for the laser: then the box asks,
+//! // 100 to the start, 43 of random wait, 32 for the laser: then the box asks,
 //! // and goes no further until that is seen to.
 //! let advanced = floor_box.advance(1000)?;
-//! assert_eq!(advanced.made, 180);
-//! head.advance(180)?;
+//! assert_eq!(advanced.made, 175);
+//! head.advance(175)?;
 //! head.hear(0, &advanced.reply.frames()[0])?;
 //! assert_eq!(floor_box.state(), BoxState::Requesting);
 //! # Ok(())

@@ -50,6 +50,10 @@ fn warming(left: u32) -> FloorBox {
     })
 }
 
+fn fading(left: u32) -> Light {
+    Light::Fading { left }
+}
+
 fn restored(parts: BoxParts) -> FloorBox {
     FloorBox::restored(&parts).unwrap()
 }
@@ -126,10 +130,38 @@ fn a_box_stops_at_a_notice_and_not_at_its_laser() {
     assert!(reply.frames().is_empty());
     let parts = floor_box.parts();
     assert_eq!(parts.count, 1142);
-    assert_eq!(parts.light, Light::Open { left: 158 });
+    assert_eq!(parts.light, Light::Open { left: 126 });
     assert!(parts.grants.is_empty());
     let Advanced { reply, made } = floor_box.advance(MOST_TICKS).unwrap();
-    assert!(made == 158 && reply.notices().eq([BoxNotice::Close]));
+    assert!(made == 126 && reply.notices().eq([BoxNotice::Close]));
+    let parts = floor_box.parts();
+    assert_eq!((parts.count, parts.light), (1268, fading(32)));
+}
+
+/// Its light goes out, and the next grant is lit, without a word.
+#[test]
+fn a_box_fades_on_the_way() {
+    let (length, sync) = (116, 10);
+    let next = Grant {
+        start: 1300,
+        length,
+    };
+    let closed = restored(BoxParts {
+        light: fading(32),
+        grants: [next].into(),
+        ..registered(1268)
+    });
+    assert_eq!(closed.ticks_until(), 31);
+    let lit = |left| Light::Lit { left, length, sync };
+    for (ticks, light) in [(31, fading(1)), (32, lit(42)), (33, lit(41))] {
+        let mut floor_box = closed.clone();
+        let Advanced { reply, made } = floor_box.advance(ticks).unwrap();
+        assert!(made == ticks && reply.notices().next().is_none());
+        assert_eq!(floor_box.parts().light, light);
+    }
+    let mut floor_box = closed;
+    let Advanced { reply, made } = floor_box.advance(MOST_TICKS).unwrap();
+    assert!(made == 74 && reply.notices().eq([BoxNotice::Open]));
 }
 
 #[test]

@@ -1,6 +1,6 @@
 //! The wrapper's numbers are the header's, and so is the version.
 
-use crustnewt::{sys, Refusal};
+use crustnewt::{sys, BoxParts, FloorBox, Grant, Light, Refusal};
 use std::collections::HashMap;
 
 const HEADER: &str = include_str!("../../../include/crustnewt.h");
@@ -38,6 +38,29 @@ fn lengths_are_the_headers() {
         ("MOST_SETS_OCTETS", sys::MOST_SETS_OCTETS),
     ] {
         assert_eq!(numbers[name], length, "{name}");
+    }
+}
+
+#[test]
+fn phases_are_the_headers() {
+    let numbers = numbers();
+    let (left, random, length, sync) = (1, 0, 106, 0);
+    let grant = Grant { start: 0, length };
+    for (phase, light) in [
+        ("REST", Light::Rest),
+        ("BEFORE", Light::Before { left, random, sync }),
+        ("RANDOM", Light::Random { left, sync }),
+        ("WARMING", Light::Warming { left }),
+        ("ASKING", Light::Asking { left }),
+        ("DUE", Light::Due { left, grant, sync }),
+        ("LIT", Light::Lit { left, length, sync }),
+        ("OPEN", Light::Open { left }),
+        ("FADING", Light::Fading { left }),
+    ] {
+        let fresh = FloorBox::fresh(0x0200_0000_0031).unwrap().parts();
+        let words = BoxParts { light, ..fresh }.words();
+        let number = numbers[format!("BOX_LIGHT_{phase}").as_str()];
+        assert_eq!(words[numbers["BOX_LIGHT"]], number as u64, "{phase}");
     }
 }
 

@@ -143,10 +143,13 @@ fn no_word_of_a_box_is_cut() {
 
 #[test]
 fn no_unknown_state_or_phase_of_a_box_is_taken() {
-    for (place, number) in [(STATE, 4), (LIGHT, 8), (STATE, u64::MAX), (LIGHT, u64::MAX)] {
+    for (place, number) in [(STATE, 4), (LIGHT, 9), (STATE, u64::MAX), (LIGHT, u64::MAX)] {
         let mut block = LIT_BOX;
         block[place] = number;
         require_nobodys_box(&block, &format!("word {place}"));
+    }
+    for phase in [9, 15, WIDE + 8, u64::MAX] {
+        require_nobodys_box(&registered([phase, 5, 0, 0]), &format!("phase {phase}"));
     }
     for state in [4, 9, WIDE, WIDE + 3, u64::MAX] {
         let mut strange = OPEN_BOX;
@@ -157,7 +160,7 @@ fn no_unknown_state_or_phase_of_a_box_is_taken() {
 
 /// A transmitter of each phase: what it holds, and which of grant and sync it
 /// doesn't hold.
-const PHASES: [([u64; 4], &[usize]); 8] = [
+const PHASES: [([u64; 4], &[usize]); 9] = [
     ([0, 0, 0, 0], &[9, LIGHT_GRANT, LIGHT_SYNC]),
     ([1, 5, 100, 10], &[]),
     ([2, 5, 0, 10], &[LIGHT_GRANT]),
@@ -166,6 +169,7 @@ const PHASES: [([u64; 4], &[usize]); 8] = [
     ([5, 5, 77 << 32 | 200, 10], &[]),
     ([6, 5, 200, 10], &[]),
     ([7, 5, 0, 0], &[LIGHT_GRANT, LIGHT_SYNC]),
+    ([8, 5, 0, 0], &[LIGHT_GRANT, LIGHT_SYNC]),
 ];
 
 #[test]
@@ -183,6 +187,24 @@ fn what_a_phase_does_not_hold_is_0() {
             }
         }
     }
+}
+
+/// Fading runs for 32 ticks, and only where the box isn't in WAIT.
+#[test]
+fn a_fading_box_lets_nothing_out_and_is_judged_by_its_timer() {
+    for left in [1, 32] {
+        let fading = registered([8, left, 0, 0]);
+        assert_eq!(numbers_of_box(&fading), [0, 7, 0, 0, 0]);
+        assert_eq!(lets_out(&fading), [0; 3]);
+    }
+    for left in [0, 33, WIDE - 1] {
+        require_unsound_box(&registered([8, left, 0, 0]), &format!("{left} left"));
+    }
+    let mut waiting = [0; sys::BOX_WORDS];
+    waiting[0] = BOX_ADDRESS;
+    assert_eq!(numbers_of_box(&waiting)[0], 0);
+    (waiting[LIGHT], waiting[9]) = (8, 32);
+    require_unsound_box(&waiting, "in WAIT");
 }
 
 #[test]
@@ -333,7 +355,7 @@ fn step(dice: &mut Dice, head: &mut Head<ArrayTable<2>>, floor_box: &mut FloorBo
 
 #[test]
 fn every_state_of_a_run_is_taken_word_for_word() {
-    let mut phases = [0; 8];
+    let mut phases = [0; 9];
     for seed in 0..40 {
         let mut dice = Dice(seed);
         let mut head = Head::fresh(HEAD_ADDRESS, ArrayTable::<2>::new()).unwrap();

@@ -1,9 +1,9 @@
 //! The wrapper in use; answers worked by hand from the rules.
 
 use crustnewt::{
-    AckFlag, ArrayTable, Body, BoxNotice, BoxState, FloorBox, Frame, Grant, Granted, Head,
-    HeadNotice, HeadNoticeKind, Light, LinkState, Message, Next, OpenWindow, QueueSets, Refusal,
-    RegisterFlag, RequestFlag, Table, UpTo, VecTable, Window,
+    AckFlag, Advanced, ArrayTable, Body, BoxNotice, BoxState, FloorBox, Frame, Grant, Granted,
+    Head, HeadNotice, HeadNoticeKind, Light, LinkState, Message, Next, OpenWindow, QueueSets,
+    Refusal, RegisterFlag, RequestFlag, Table, UpTo, VecTable, Window,
 };
 
 const HEAD: u64 = 0x0200_0000_0001;
@@ -27,7 +27,7 @@ fn body(frame: &Frame) -> Body {
     message.body()
 }
 
-/// A box that has heard of a window at count 0, sync 0 and length 74, and has
+/// A box that has heard of a window at count 0, sync 0 and length 106, and has
 /// asked in it; and its request.
 fn asked<T: Table>(head: &mut Head<T>) -> (FloorBox, Frame) {
     let mut floor_box = FloorBox::fresh(BOX).unwrap();
@@ -35,7 +35,7 @@ fn asked<T: Table>(head: &mut Head<T>) -> (FloorBox, Frame) {
     let asked = OpenWindow {
         grant: Grant {
             start: 0,
-            length: 74,
+            length: 106,
         },
         sync: 0,
         window: 100,
@@ -109,7 +109,8 @@ fn a_grant_is_told_and_lit() {
         .notices()
         .eq([BoxNotice::Grant(Granted { grant, force })]));
     assert_eq!(*floor_box.parts().grants, [grant]);
-    // The request's 42 ticks of light end first; the wait begins then.
+    // The request's 42 ticks of light and 32 of fading end first; the wait
+    // begins then.
     for _ in 0..100 {
         floor_box.tick().unwrap();
     }
@@ -117,6 +118,14 @@ fn a_grant_is_told_and_lit() {
     let (left, length, sync) = (32, 200, 0);
     assert_eq!(light, Light::Lit { left, length, sync });
     assert!(light.is_lit() && light.left() == 32);
+    // Of the 200 transmission has what the laser leaves: 200 - 32 - 32.
+    for (ticks, notice) in [(32, BoxNotice::Open), (136, BoxNotice::Close)] {
+        let Advanced { reply, made } = floor_box.advance(1000).unwrap();
+        assert!(made == ticks && reply.notices().eq([notice]));
+    }
+    let light = floor_box.parts().light;
+    assert_eq!(light, Light::Fading { left: 32 });
+    assert!(!light.is_lit() && light.left() == 32);
 }
 
 #[test]
@@ -232,7 +241,7 @@ fn a_gate_has_four_grants_at_most() {
     let register = head.admit(BOX, 16, 0).unwrap().frames()[0];
     let ack = floor_box.clone().hear(&register, 0).unwrap().frames()[0];
     head.hear(1, &ack).unwrap();
-    let grants = [1, 2, 3, 4, 5, 6].map(|start| Grant { start, length: 74 });
+    let grants = [1, 2, 3, 4, 5, 6].map(|start| Grant { start, length: 106 });
     for number in 0..=4 {
         let force = 0b0101 & ((1 << number) - 1);
         let sent = head.gate(1, &grants[..number], force).unwrap();

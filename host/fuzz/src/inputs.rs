@@ -20,7 +20,7 @@ const LIGHT: usize = 8;
 const LIST: usize = 13;
 
 /// Words where fields and limits end.
-const EDGES: [u64; 20] = [
+const EDGES: [u64; 22] = [
     0,
     1,
     2,
@@ -28,8 +28,10 @@ const EDGES: [u64; 20] = [
     4,
     16,
     17,
+    32,
+    33,
     42,
-    74,
+    106,
     65_535,
     65_536,
     131_072,
@@ -109,11 +111,11 @@ pub fn spoil(dice: &mut Dice, words: &mut [u64]) {
     }
 }
 
-/// Sets a box's transmitter to any phase, close to its end, mostly with what
-/// the phase holds.
+/// Sets a box's transmitter to any phase, close to its end or to where fading
+/// begins, mostly with what the phase holds.
 pub fn relight(dice: &mut Dice, block: &mut [u64]) {
-    let (phase, left) = (dice.below(8), 1 + dice.below(3));
-    let grant = dice.pick(&[0, 74, 100, block[LIST]]);
+    let (phase, left) = (dice.below(9), dice.pick(&[1, 1, 2, 3, 32, 33]));
+    let grant = dice.pick(&[0, 105, 106, 132, block[LIST]]);
     let held = [1, 5, 6].contains(&phase) || dice.chance(50);
     let grant = if held { grant } else { 0 };
     block[LIGHT..][..4].copy_from_slice(&[phase, left, grant, 0]);

@@ -246,7 +246,7 @@ fn usual(links: usize) -> usize {
 
 /// A window, mostly one that can be opened at the head's count.
 fn open(dice: &mut Dice, head: &[u64]) -> [u32; 4] {
-    let mut asked = [head[1] as u32, 74, 0, 1].map(|least| {
+    let mut asked = [head[1] as u32, 106, 0, 1].map(|least| {
         let more = dice.pick(&[0, 1, 100, 1000]);
         least.wrapping_add(dice.below(more + 1) as u32)
     });

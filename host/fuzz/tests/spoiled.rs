@@ -110,6 +110,16 @@ enum Flaw {
     ReadsPad,
     /// A REPORT that isn't zero behind its sets is written.
     WritesPad,
+    /// A box that fades is refused, as if there were no such phase.
+    RefusesFading,
+    /// A box whose laser is ordered off fades for 33 ticks.
+    FadesLonger,
+    /// A box that enters WAIT while it fades goes on.
+    FadesInWait,
+    /// A control frame goes while a box fades.
+    SendsFading,
+    /// A box that fades says that it is silent for a tick more than it is.
+    FadesSilently,
 }
 
 /// Where the words of a message have the body of a REPORT.
@@ -161,9 +171,21 @@ fn without_pad(words: &mut [u64]) {
     }
 }
 
+/// Where a box's words have its state, its transmitter's phase and that one's
+/// timer.
+const STATE: usize = 2;
+const PHASE: usize = 8;
+const LEFT: usize = 9;
+/// WAIT, the phase of a box that fades, and how many phases there are.
+const WAIT: u64 = 0;
+const FADING: u64 = 8;
+const PHASES: u64 = 9;
+
 struct Spoiled {
     flaw: Flaw,
     calls: Cell<u64>,
+    /// A bit for each phase that a call was asked in and done.
+    phases: Cell<u64>,
 }
 
 impl Spoiled {
@@ -201,6 +223,39 @@ impl Spoiled {
             }
             (Flaw::SendsPad, 0) => memory.frames[59] |= 1,
             (Flaw::SendsEmpty, 0) => memory.frames[20..60].fill(0),
+            _ => {}
+        }
+        number
+    }
+
+    /// What a box has done, spoiled after it did.
+    fn spoil_box(&self, call: &BoxCall, number: u8, memory: &mut BoxMemory<'_>) -> u8 {
+        match (self.flaw, number) {
+            (Flaw::StrangeNumber, 7) => return 15,
+            (Flaw::RefusalCounts, 7) => memory.block[1] ^= 1,
+            (Flaw::ShortIsTouched, 100) => memory.reply.iter_mut().for_each(|word| *word = 0),
+            (Flaw::StrayOctet, 0) => memory.frames[119] = 0,
+            (Flaw::LeavesUnsound, 0) if *call == BoxCall::Register => memory.block[3] = 1,
+            (Flaw::Moody, 0) => memory.block[1] ^= self.calls.get() & 1,
+            (Flaw::RefusedAdvances, 9) => memory.block[1] ^= 1,
+            (Flaw::SendsGroup, 0) if memory.reply[1] > 0 => memory.frames[6] |= 1,
+            _ => {}
+        }
+        number
+    }
+
+    /// What a box has done that faded before or fades now, spoiled.
+    fn spoil_fading(&self, before: &[u64], number: u8, memory: &mut BoxMemory<'_>) -> u8 {
+        let block = &mut *memory.block;
+        let faded = before.get(PHASE) == Some(&FADING);
+        match (self.flaw, number) {
+            (Flaw::RefusesFading, 7) if faded => return 13,
+            (Flaw::FadesLonger, 0) if block[PHASE] == FADING && block[LEFT] == 32 => {
+                block[LEFT] = 33;
+            }
+            (Flaw::FadesInWait, 0) if faded && block[STATE] == WAIT => {
+                block[PHASE..=LEFT].copy_from_slice(&before[PHASE..=LEFT]);
+            }
             _ => {}
         }
         number
@@ -265,6 +320,7 @@ impl Face for Spoiled {
         let mut own = [0];
         let unlent = made.is_empty() && self.is(Flaw::MadeUnlent);
         let made = if unlent { &mut own[..] } else { made };
+        let before = memory.block.to_vec();
         let BoxMemory {
             block,
             frames,
@@ -286,18 +342,11 @@ impl Face for Spoiled {
             return self.spoil_report((*sets, &octets[..*lent]), number, &mut memory);
         }
         self.calls.set(self.calls.get() + 1);
-        match (self.flaw, number) {
-            (Flaw::StrangeNumber, 7) => return 15,
-            (Flaw::RefusalCounts, 7) => memory.block[1] ^= 1,
-            (Flaw::ShortIsTouched, 100) => memory.reply.iter_mut().for_each(|word| *word = 0),
-            (Flaw::StrayOctet, 0) => memory.frames[119] = 0,
-            (Flaw::LeavesUnsound, 0) if *call == BoxCall::Register => memory.block[3] = 1,
-            (Flaw::Moody, 0) => memory.block[1] ^= self.calls.get() & 1,
-            (Flaw::RefusedAdvances, 9) => memory.block[1] ^= 1,
-            (Flaw::SendsGroup, 0) if memory.reply[1] > 0 => memory.frames[6] |= 1,
-            _ => {}
+        if number == 0 && before[PHASE] < PHASES {
+            self.phases.set(self.phases.get() | 1 << before[PHASE]);
         }
-        number
+        let number = self.spoil_box(call, number, &mut memory);
+        self.spoil_fading(&before, number, &mut memory)
     }
 
     fn on_head(&self, call: &HeadCall, mut memory: HeadMemory<'_>, made: &mut [u64]) -> u8 {
@@ -336,6 +385,7 @@ impl Face for Spoiled {
     fn box_ticks_until(&self, block: &[u64]) -> u64 {
         match Library.box_ticks_until(block) {
             until @ 1..65_536 if self.is(Flaw::UntilMore) => until + 1,
+            until @ 1.. if self.is(Flaw::FadesSilently) && block[PHASE] == FADING => until + 1,
             until => until,
         }
     }
@@ -350,6 +400,7 @@ impl Face for Spoiled {
     fn next_to_send(&self, block: &[u64], control: &[u8], data: &[u8]) -> u8 {
         match Library.next_to_send(block, control, data) {
             0 if self.is(Flaw::SendsNothing) => 2,
+            0 if self.is(Flaw::SendsFading) && block[PHASE] == FADING => 1,
             number => number,
         }
     }
@@ -407,11 +458,12 @@ fn spoiled(flaw: Flaw) -> Spoiled {
     Spoiled {
         flaw,
         calls: Cell::new(0),
+        phases: Cell::new(0),
     }
 }
 
 /// Every flaw.
-const FLAWS: [Flaw; 50] = [
+const FLAWS: [Flaw; 55] = [
     Flaw::StrangeNumber,
     Flaw::RefusalCounts,
     Flaw::ShortIsTouched,
@@ -462,6 +514,11 @@ const FLAWS: [Flaw; 50] = [
     Flaw::ReadsPast,
     Flaw::ReadsPad,
     Flaw::WritesPad,
+    Flaw::RefusesFading,
+    Flaw::FadesLonger,
+    Flaw::FadesInWait,
+    Flaw::SendsFading,
+    Flaw::FadesSilently,
 ];
 
 #[test]
@@ -474,12 +531,16 @@ fn each_flaw_is_found() {
 }
 
 #[test]
-fn every_number_is_reached_and_nothing_is_found() {
+fn every_number_and_phase_is_reached_and_nothing_is_found() {
     let (face, mut tally) = (spoiled(Flaw::None), [0; 256]);
     for seed in 0..2000 {
         fuzz(&face, seed, &mut tally).unwrap();
     }
     for number in (0..=14).chain([100]) {
         assert!(tally[number] > 0, "no call answers {number}");
+    }
+    for phase in 0..PHASES {
+        let reached = face.phases.get() >> phase & 1 == 1;
+        assert!(reached, "no call is done in phase {phase}");
     }
 }

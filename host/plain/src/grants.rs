@@ -161,24 +161,24 @@ mod tests {
 
     #[test]
     fn nearest_across_the_wrap_comes_first() {
-        let mut list = GrantList::of(&[grant(5, 100), grant(0xFFFF_FFFF, 100)]).unwrap();
-        let chosen = list.choose(Count(0xFFFF_FFF0), 74);
-        assert_eq!(chosen, Some((15, grant(0xFFFF_FFFF, 100))));
+        let mut list = GrantList::of(&[grant(5, 120), grant(0xFFFF_FFFF, 120)]).unwrap();
+        let chosen = list.choose(Count(0xFFFF_FFF0), 106);
+        assert_eq!(chosen, Some((15, grant(0xFFFF_FFFF, 120))));
         assert_eq!(list.as_slice().len(), 2);
     }
 
     #[test]
     fn earliest_arrival_of_equal_starts_comes_first() {
-        let mut list = GrantList::of(&[grant(9, 80), grant(9, 90)]).unwrap();
-        assert_eq!(list.choose(Count(0), 74), Some((9, grant(9, 80))));
+        let mut list = GrantList::of(&[grant(9, 110), grant(9, 120)]).unwrap();
+        assert_eq!(list.choose(Count(0), 106), Some((9, grant(9, 110))));
     }
 
     #[test]
     fn past_and_short_grants_leave_the_list() {
-        let held = [grant(3, 100), grant(8, 73), grant(20, 74), grant(30, 10)];
+        let held = [grant(3, 120), grant(8, 105), grant(20, 106), grant(30, 10)];
         let mut list = GrantList::of(&held).unwrap();
-        assert_eq!(list.choose(Count(4), 74), Some((16, grant(20, 74))));
-        assert_eq!(list.as_slice(), [grant(20, 74), grant(30, 10)]);
+        assert_eq!(list.choose(Count(4), 106), Some((16, grant(20, 106))));
+        assert_eq!(list.as_slice(), [grant(20, 106), grant(30, 10)]);
     }
 
     #[test]

@@ -1,15 +1,17 @@
 //! The box's transmitter: laser, windows and the waits before them.
 
 use crate::grants::{Grant, GrantList};
-use crate::numbers::{needed_length, runs, CONTROL_FRAME, FURTHEST_START, LASER_ON, LONGEST};
+use crate::numbers::{
+    needed_length, runs, CONTROL_FRAME, FURTHEST_START, LASER_OFF, LASER_ON, LONGEST,
+};
 
 /// Longest wait for a normal grant: the largest distance.
 const FURTHEST: u32 = i32::MAX as u32;
 /// Longest time of the laser before a discovery window: the sync isn't kept
 /// any more, so the largest one that a needed length can hold.
-const LONGEST_WARMING: u32 = LONGEST - CONTROL_FRAME;
+const LONGEST_WARMING: u32 = LONGEST - CONTROL_FRAME - LASER_OFF;
 /// Longest normal window: the longest grant without sync.
-const LONGEST_OPEN: u32 = LONGEST - LASER_ON;
+const LONGEST_OPEN: u32 = LONGEST - LASER_ON - LASER_OFF;
 
 /// What the transmitter does; `left` is the ticks left of it.
 #[derive(Clone, Copy, Debug, Default, PartialEq, Eq)]
@@ -66,6 +68,11 @@ pub enum Light {
         /// Ticks left.
         left: u32,
     },
+    /// Laser ordered off behind either window, and not yet dark.
+    Fading {
+        /// Ticks left.
+        left: u32,
+    },
 }
 
 impl Light {
@@ -80,6 +87,7 @@ impl Light {
             Light::Due { .. } => "due",
             Light::Lit { .. } => "lit",
             Light::Open { .. } => "open",
+            Light::Fading { .. } => "fading",
         }
     }
 
@@ -93,7 +101,8 @@ impl Light {
             | Light::Asking { left }
             | Light::Due { left, .. }
             | Light::Lit { left, .. }
-            | Light::Open { left } => left,
+            | Light::Open { left }
+            | Light::Fading { left } => left,
         }
     }
 
@@ -107,7 +116,8 @@ impl Light {
             | Light::Asking { left }
             | Light::Due { left, .. }
             | Light::Lit { left, .. }
-            | Light::Open { left } => Some(left),
+            | Light::Open { left }
+            | Light::Fading { left } => Some(left),
         }
     }
 
@@ -141,6 +151,7 @@ impl Light {
                 serves(length, sync) && runs(left, LASER_ON + sync)
             }
             Light::Open { left } => runs(left, LONGEST_OPEN),
+            Light::Fading { left } => runs(left, LASER_OFF),
         }
     }
 
@@ -172,11 +183,16 @@ impl Light {
         }
     }
 
-    /// The remainder of a normal grant after its laser's time.
+    /// What a normal grant leaves between its laser's times (R133).
     pub(crate) const fn open(length: u32, sync: u32) -> Light {
         Light::Open {
-            left: length - (LASER_ON + sync),
+            left: length - (LASER_ON + sync) - LASER_OFF,
         }
+    }
+
+    /// Laser ordered off (R245).
+    pub(crate) const fn fading() -> Light {
+        Light::Fading { left: LASER_OFF }
     }
 
     /// One tick; true when what the transmitter does has come to its end.
@@ -216,9 +232,12 @@ mod tests {
         let asking = |left| Light::Asking { left };
         assert!(!sound(asking(0)) && sound(asking(42)) && !sound(asking(43)));
         let open = |left| Light::Open { left };
-        assert!(!sound(open(0)) && sound(open(65_503)) && !sound(open(65_504)));
+        assert!(!sound(open(0)) && sound(open(65_471)) && !sound(open(65_472)));
         let warming = |left| Light::Warming { left };
-        assert!(!sound(warming(0)) && sound(warming(65_493)) && !sound(warming(65_494)));
+        assert!(!sound(warming(0)) && sound(warming(65_461)) && !sound(warming(65_462)));
+        let fading = |left| Light::Fading { left };
+        assert!(!sound(fading(0)) && sound(fading(1)));
+        assert!(sound(fading(32)) && !sound(fading(33)));
     }
 
     #[test]
@@ -228,18 +247,19 @@ mod tests {
             random,
             sync,
         };
-        assert!(sound(before(65_461, 0)) && !sound(before(65_462, 0)));
-        assert!(sound(before(0, 65_461)) && !sound(before(0, 65_462)));
+        assert!(sound(before(65_429, 0)) && !sound(before(65_430, 0)));
+        assert!(sound(before(0, 65_429)) && !sound(before(0, 65_430)));
         let random = |left, sync| Light::Random { left, sync };
-        assert!(!sound(random(0, 0)) && sound(random(65_461, 0)));
-        assert!(!sound(random(1, 65_461)) && !sound(random(1, u32::MAX)));
+        assert!(!sound(random(0, 0)) && sound(random(65_429, 0)) && !sound(random(65_430, 0)));
+        assert!(sound(random(1, 65_428)) && !sound(random(1, 65_429)));
+        assert!(!sound(random(1, u32::MAX)));
     }
 
     #[test]
     fn grant_waited_for_is_in_the_list_and_long_enough() {
         let grant = Grant {
             start: Count(9),
-            length: 84,
+            length: 116,
         };
         let list = GrantList::of(&[grant]).unwrap();
         let due = |grant, sync| Light::Due {
@@ -251,7 +271,7 @@ mod tests {
         assert!(!due(grant, 11).is_sound(&list));
         assert!(!due(
             Grant {
-                length: 85,
+                length: 117,
                 ..grant
             },
             10
@@ -263,8 +283,8 @@ mod tests {
     #[test]
     fn laser_time_is_judged_with_its_sync() {
         let lit = |left, length, sync| Light::Lit { left, length, sync };
-        assert!(sound(lit(42, 84, 10)) && !sound(lit(43, 84, 10)));
-        assert!(!sound(lit(42, 83, 10)) && !sound(lit(0, 84, 10)));
+        assert!(sound(lit(42, 116, 10)) && !sound(lit(43, 116, 10)));
+        assert!(!sound(lit(42, 115, 10)) && !sound(lit(0, 116, 10)));
         assert!(!sound(lit(1, 65_536, 0)) && !sound(lit(1, u32::MAX, u32::MAX)));
     }
 

@@ -1,7 +1,9 @@
-//! Numbers (R17 to R29), and the sums made from them.
+//! Numbers (R17 to R29, R244), and the sums made from them.
 
 /// Ticks from laser on to the start of the sync time.
 pub const LASER_ON: u32 = 32;
+/// Ticks from the order that ends light to the transmitter's rest.
+pub const LASER_OFF: u32 = 32;
 /// Ticks until a registered end that hears nothing gives up (omp_timer).
 pub const WATCHDOG: u32 = 62_500_000;
 /// Ticks between periodic GATEs, and between periodic REPORTs.
@@ -27,7 +29,7 @@ pub const TICKS_PER_SECOND: u64 = 62_500_000;
 
 /// Shortest grant that serves a box whose sync time is `sync`.
 pub const fn needed_length(sync: u32) -> u32 {
-    sync.saturating_add(LASER_ON + CONTROL_FRAME)
+    sync.saturating_add(LASER_ON + CONTROL_FRAME + LASER_OFF)
 }
 
 /// Quanta that a frame of `octets` octets needs: (n + 24) / 2, rounded up.
@@ -71,12 +73,13 @@ mod tests {
 
     #[test]
     fn sum_5_shortest_grant_without_sync() {
-        assert_eq!(needed_length(0), 74);
+        assert_eq!(needed_length(0), 106);
     }
 
     #[test]
     fn sum_6_no_length_serves_the_longest_sync() {
         assert!(needed_length(65_535) > LONGEST);
+        assert!(needed_length(65_430) > LONGEST && needed_length(65_429) == LONGEST);
     }
 
     #[test]

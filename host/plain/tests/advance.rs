@@ -170,10 +170,44 @@ fn the_laser_goes_on_silently_and_an_open_window_stops_it() {
     let opens = (52, vec![], vec![BoxNotice::Open]);
     assert_eq!(advance(&mut floor_box, 65_536), opens);
     assert_eq!(floor_box.count, Count(1142));
-    assert_eq!(floor_box.light, Light::Open { left: 158 });
+    assert_eq!(floor_box.light, Light::Open { left: 126 });
     assert!(floor_box.grants.is_empty());
-    let closes = (158, vec![], vec![BoxNotice::Close]);
+    let closes = (126, vec![], vec![BoxNotice::Close]);
     assert_eq!(advance(&mut floor_box, 65_536), closes);
+    assert_eq!(floor_box.count, Count(1268));
+    assert_eq!(floor_box.light, Light::Fading { left: 32 });
+    assert_eq!(floor_box.ticks_until(), 31);
+}
+
+#[test]
+fn a_box_fades_and_lights_again_silently() {
+    let next = grant(1300, 106);
+    let fading = FloorBox {
+        light: Light::Fading { left: 32 },
+        grants: GrantList::of(&[next]).unwrap(),
+        ..registered(1268, 62_500_000, 3_125_000)
+    };
+    let lit = |left| Light::Lit {
+        left,
+        length: 106,
+        sync: 0,
+    };
+    for (ticks, light) in [
+        (31, Light::Fading { left: 1 }),
+        (32, lit(32)),
+        (33, lit(31)),
+    ] {
+        let mut floor_box = fading;
+        assert_eq!(
+            advance(&mut floor_box, ticks),
+            (ticks as u32, vec![], vec![])
+        );
+        assert_eq!(floor_box.light, light);
+    }
+    let mut floor_box = fading;
+    let opens = (64, vec![], vec![BoxNotice::Open]);
+    assert_eq!(advance(&mut floor_box, 65_536), opens);
+    assert_eq!(floor_box.light, Light::Open { left: 42 });
 }
 
 #[test]
@@ -253,11 +287,14 @@ fn discovery_is_silent_up_to_the_request() {
     let flag = RequestFlag::Register;
     let body = Body::RegisterReq { flag, pending: 16 };
     assert_eq!((frames[0].stamp, frames[0].body), (Count(147), body));
-    // The end of asking passes silently, 42 ticks on.
+    // The end of asking passes silently, 42 ticks on, and 32 later fading's.
     assert_eq!(floor_box.ticks_until(), 41);
     assert_eq!(advance(&mut floor_box, 50), (50, vec![], vec![]));
+    assert_eq!(floor_box.light, Light::Fading { left: 24 });
+    assert_eq!(floor_box.ticks_until(), 23);
+    assert_eq!(advance(&mut floor_box, 24), (24, vec![], vec![]));
     assert_eq!(floor_box.light, Light::Rest);
-    assert_eq!(floor_box.wait, 3_124_950);
+    assert_eq!(floor_box.wait, 3_124_926);
 }
 
 #[test]
@@ -278,7 +315,7 @@ fn retry_and_farewell_stop_it() {
 #[test]
 fn past_and_short_grants_leave_the_list_silently() {
     // At rest with a list, which only a state handed in has.
-    let held = [grant(5, 80), grant(50, 73), grant(60, 100)];
+    let held = [grant(5, 120), grant(50, 105), grant(60, 106)];
     let mut floor_box = FloorBox {
         grants: GrantList::of(&held).unwrap(),
         ..registered(20, 62_500_000, 3_125_000)
@@ -410,7 +447,7 @@ impl Dice {
         let grants: Vec<Grant> = (0..many)
             .map(|_| Grant {
                 start: Count(now.0.wrapping_sub(20).wrapping_add(self.below(200))),
-                length: 60 + self.below(60),
+                length: 92 + self.below(60),
             })
             .collect();
         GrantList::of(&grants).unwrap()
@@ -418,8 +455,8 @@ impl Dice {
 
     fn light(&mut self, grants: &GrantList) -> Light {
         let sync = self.below(20);
-        let due = grants.as_slice().iter().find(|g| g.length >= 74 + sync);
-        match (self.below(9), due) {
+        let due = grants.as_slice().iter().find(|g| g.length >= 106 + sync);
+        match (self.below(10), due) {
             (0, _) => Light::Before {
                 left: self.timer(62_500_000),
                 random: self.below(50),
@@ -437,13 +474,16 @@ impl Dice {
             },
             (4, _) => Light::Lit {
                 left: self.timer(32),
-                length: 100,
+                length: 130,
                 sync,
             },
             (5, _) => Light::Open {
                 left: self.timer(1000),
             },
-            (6 | 7, Some(&grant)) => Light::Due {
+            (6, _) => Light::Fading {
+                left: self.timer(32),
+            },
+            (7 | 8, Some(&grant)) => Light::Due {
                 left: self.timer(1000),
                 grant,
                 sync,

@@ -139,7 +139,7 @@ fn client_requests_have_their_states() {
 
 #[test]
 fn sums_8_and_9_random_wait() {
-    for (random, wait) in [(250, 48), (101, 0), (100, 100)] {
+    for (random, wait) in [(250, 43), (101, 32), (69, 0), (68, 68)] {
         let mut floor_box = registering();
         floor_box.hear(&discovery(5, 5, 174, 0), random).unwrap();
         let expected = match wait {
@@ -170,10 +170,10 @@ fn discovery_gate_to_the_box_alone_has_no_random_wait() {
 #[test]
 fn discovery_passes_over_short_and_far_grants() {
     let passed = [
-        discovery(0, 10, 73, 0),
-        discovery(0, 62_500_001, 74, 0),
-        discovery(10, 9, 74, 0),
-        discovery(0, 10, 65_535, 65_462),
+        discovery(0, 10, 105, 0),
+        discovery(0, 62_500_001, 106, 0),
+        discovery(10, 9, 106, 0),
+        discovery(0, 10, 65_535, 65_430),
     ];
     for message in passed {
         let mut floor_box = registering();
@@ -185,7 +185,7 @@ fn discovery_passes_over_short_and_far_grants() {
 #[test]
 fn discovery_from_start_to_dark() {
     let mut floor_box = registering();
-    floor_box.hear(&discovery(100, 110, 80, 3), 2).unwrap();
+    floor_box.hear(&discovery(100, 110, 112, 3), 2).unwrap();
     // 10 ticks to the start, 2 of random wait (2 mod 4), 32 + 3 of laser.
     let (ticks, answer) = until_heard(&mut floor_box, 100);
     assert_eq!(ticks, 47);
@@ -206,6 +206,11 @@ fn discovery_from_start_to_dark() {
     }
     assert_eq!(floor_box.light, Light::Asking { left: 1 });
     assert_eq!(floor_box.tick(), Ok(BoxAnswer::default()));
+    assert_eq!(floor_box.light, Light::Fading { left: 32 });
+    for _ in 0..32 {
+        assert_eq!(floor_box.next(60, 0), Next::Nothing);
+        assert_eq!(floor_box.tick(), Ok(BoxAnswer::default()));
+    }
     assert_eq!(floor_box.light, Light::Rest);
 }
 
@@ -262,7 +267,7 @@ fn reregister_keeps_the_list_and_restarts_the_watchdog() {
     let mut floor_box = registered(0, 0);
     floor_box.watchdog = 5;
     floor_box.report = 6;
-    floor_box.grants = GrantList::of(&[grant(500, 100)]).unwrap();
+    floor_box.grants = GrantList::of(&[grant(500, 126)]).unwrap();
     floor_box
         .hear(&register(0, RegisterFlag::Reregister, 2, 20), 0)
         .unwrap();
@@ -271,7 +276,7 @@ fn reregister_keeps_the_list_and_restarts_the_watchdog() {
         (floor_box.watchdog, floor_box.report),
         (62_500_000, 3_125_000)
     );
-    assert_eq!(floor_box.grants.as_slice(), [grant(500, 100)]);
+    assert_eq!(floor_box.grants.as_slice(), [grant(500, 126)]);
 }
 
 #[test]
@@ -331,12 +336,12 @@ fn order_of_tests_at_the_box() {
 fn a_message_from_a_group_or_nobody_changes_nothing() {
     let mut floor_box = registered(7, 0);
     floor_box.watchdog = 5;
-    floor_box.grants = GrantList::of(&[grant(500, 100)]).unwrap();
+    floor_box.grants = GrantList::of(&[grant(500, 120)]).unwrap();
     let before = floor_box;
     for from in [GROUP, Address::ZERO, Address(HEAD.0 | 1 << 48)] {
         for heard in [
-            gate(9, &[grant(600, 100)]),
-            discovery(9, 600, 100, 0),
+            gate(9, &[grant(600, 120)]),
+            discovery(9, 600, 120, 0),
             register(9, RegisterFlag::Deregister, 1, 0),
         ] {
             let answer = floor_box.hear(&Message { from, ..heard }, 0);
@@ -366,7 +371,7 @@ fn an_unsound_box_is_told_before_a_group() {
 #[test]
 fn sums_11_and_12_a_grant_and_the_next_in_the_same_call() {
     let mut floor_box = registered(1000, 10);
-    let heard = gate(1000, &[grant(1100, 200), grant(1300, 100)]);
+    let heard = gate(1000, &[grant(1100, 200), grant(1300, 120)]);
     let answer = floor_box.hear(&heard, 0).unwrap();
     assert_eq!(notices(&answer).len(), 2);
     let dark = |floor_box: &FloorBox| matches!(floor_box.light, Light::Due { .. });
@@ -374,16 +379,20 @@ fn sums_11_and_12_a_grant_and_the_next_in_the_same_call() {
         floor_box.tick().unwrap();
     }
     assert_eq!(floor_box.count, Count(1100));
-    assert_eq!(floor_box.grants.as_slice(), [grant(1300, 100)]);
+    assert_eq!(floor_box.grants.as_slice(), [grant(1300, 120)]);
     let (_, open) = until_heard(&mut floor_box, 1000);
     assert_eq!(notices(&open), [BoxNotice::Open]);
     assert_eq!(floor_box.count, Count(1142));
     let (_, close) = until_heard(&mut floor_box, 1000);
     assert_eq!(notices(&close), [BoxNotice::Close]);
-    assert_eq!(floor_box.count, Count(1300));
+    assert_eq!(floor_box.count, Count(1268));
+    for _ in 1268..1300 {
+        assert!(matches!(floor_box.light, Light::Fading { .. }));
+        assert_eq!(floor_box.tick(), Ok(BoxAnswer::default()));
+    }
     let lit = Light::Lit {
         left: 42,
-        length: 100,
+        length: 120,
         sync: 10,
     };
     assert_eq!(floor_box.light, lit);
@@ -391,7 +400,7 @@ fn sums_11_and_12_a_grant_and_the_next_in_the_same_call() {
 
 #[test]
 fn sums_5_and_6_lengths_that_serve() {
-    for (sync, length, serves) in [(0, 74, true), (0, 73, false), (65_535, 65_535, false)] {
+    for (sync, length, serves) in [(0, 106, true), (0, 105, false), (65_535, 65_535, false)] {
         let mut floor_box = registered(0, sync);
         floor_box.hear(&gate(0, &[grant(5, length)]), 0).unwrap();
         assert_eq!(floor_box.light != Light::Rest, serves);
@@ -402,11 +411,11 @@ fn sums_5_and_6_lengths_that_serve() {
 #[test]
 fn a_waiting_choice_is_not_revised() {
     let mut floor_box = registered(0, 0);
-    floor_box.hear(&gate(0, &[grant(500, 100)]), 0).unwrap();
-    floor_box.hear(&gate(0, &[grant(300, 90)]), 0).unwrap();
+    floor_box.hear(&gate(0, &[grant(500, 120)]), 0).unwrap();
+    floor_box.hear(&gate(0, &[grant(300, 110)]), 0).unwrap();
     let due = Light::Due {
         left: 500,
-        grant: grant(500, 100),
+        grant: grant(500, 120),
         sync: 0,
     };
     assert_eq!(floor_box.light, due);
@@ -418,7 +427,7 @@ fn a_waiting_choice_is_not_revised() {
 #[test]
 fn only_what_is_in_reach_and_has_room_is_taken() {
     let mut floor_box = registered(0, 0);
-    floor_box.grants = GrantList::of(&[grant(900, 100); 14]).unwrap();
+    floor_box.grants = GrantList::of(&[grant(900, 120); 14]).unwrap();
     let grants = [
         grant(62_500_001, 1),
         grant(62_500_000, 2),

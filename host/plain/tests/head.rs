@@ -77,11 +77,14 @@ impl Desk {
             start: Count(start),
             length,
         };
-        let request = OpenWindow {
+        self.open_window(OpenWindow {
             grant,
             sync: 0,
             window,
-        };
+        })
+    }
+
+    fn open_window(&mut self, request: OpenWindow) -> Result<HeadAnswer, Refusal> {
         self.head
             .open_window(&self.links, &mut self.output, &request)
     }
@@ -178,17 +181,34 @@ fn window_waits_opens_and_closes() {
 fn window_at_once_and_its_bounds() {
     let mut desk = Desk::fresh(1);
     for (start, length, window) in [
-        (62_500_001, 74, 1),
-        (0xFFFF_FFFF, 74, 1),
-        (0, 73, 1),
-        (0, 74, 0),
-        (0, 74, 131_073),
+        (62_500_001, 106, 1),
+        (0xFFFF_FFFF, 106, 1),
+        (0, 105, 1),
+        (0, 106, 0),
+        (0, 106, 131_073),
     ] {
         assert_eq!(desk.open(start, length, window), Err(Refusal::BadGrant));
     }
     assert_eq!(desk.open(0, 65_536, 0), Err(Refusal::OutOfRange));
-    assert_eq!(desk.open(0, 74, 131_072), Ok(ONE_FRAME));
+    assert_eq!(desk.open(0, 106, 131_072), Ok(ONE_FRAME));
     assert_eq!(desk.head.window, Window::Inside { left: 131_072 });
+}
+
+/// 32 + 65,429 + 42 + 32 is 65,535, the longest that a frame holds.
+#[test]
+fn the_longest_sync_that_a_window_serves() {
+    let mut desk = Desk::fresh(1);
+    let longest = Grant {
+        start: Count(0),
+        length: 65_535,
+    };
+    let asked = |sync| OpenWindow {
+        grant: longest,
+        sync,
+        window: 1,
+    };
+    assert_eq!(desk.open_window(asked(65_430)), Err(Refusal::BadGrant));
+    assert_eq!(desk.open_window(asked(65_429)), Ok(ONE_FRAME));
 }
 
 #[test]

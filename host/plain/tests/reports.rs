@@ -273,7 +273,7 @@ fn a_report_leaves_an_open_window_alone() {
 fn activation_ends_a_report() {
     let grant = |start| Grant {
         start: Count(start),
-        length: 100,
+        length: 120,
     };
     let mut floor_box = FloorBox {
         grants: GrantList::of(&[grant(999), grant(2000), grant(1000)]).unwrap(),
@@ -283,7 +283,7 @@ fn activation_ends_a_report() {
     assert!(answer.notices.is_empty());
     let lit = Light::Lit {
         left: 32,
-        length: 100,
+        length: 120,
         sync: 0,
     };
     assert_eq!(floor_box.light, lit);
@@ -295,7 +295,7 @@ fn a_force_bit_sends_no_report() {
     let granted = Granted {
         grant: Grant {
             start: Count(5000),
-            length: 100,
+            length: 120,
         },
         force: true,
     };

@@ -295,6 +295,20 @@ fn a_box_hears_and_tells_its_drift() {
 }
 
 #[test]
+fn a_fading_transmitter_is_handed_in_printed_and_judged() {
+    for (left, number) in [(0, 13), (1, 7), (32, 7), (33, 13)] {
+        let before = format!(
+            "box state 020000000031 7 registered 0 62500000 3125000 1 0\nbox light fading {left}\n"
+        );
+        let expected = format!(
+            "box {number} drift 0\n  box 020000000031 count 7 registered 0 62500000 3125000 \
+             port 1 sync 0 light fading {left} grants 0\n"
+        );
+        assert_eq!(told_after(&before, "box register\n"), expected);
+    }
+}
+
+#[test]
 fn both_tick_the_head_first_and_stop_at_a_refusal() {
     let script = b"head new 1 020000000001\nbox state 020000000031 0 registered 0 9 3 1 0\n\
         box light open 2\nhead link 1 registered 020000000031 0 9 3\nboth tick 3\n\
@@ -312,15 +326,16 @@ fn both_tick_the_head_first_and_stop_at_a_refusal() {
     );
 }
 
-/// An open window, a discovery grant, ends of every timer; one box is refused
-/// in its fifth tick.
-const BOXES: [&str; 8] = [
-    "box state 020000000031 4294967290 registered 0 90 30 1 10\nbox list 1 20 100\nbox light due 26 20 100 10\n",
+/// An open window, a discovery grant, light that fades, ends of every timer; one
+/// box is refused in its fifth tick.
+const BOXES: [&str; 9] = [
+    "box state 020000000031 4294967290 registered 0 90 30 1 10\nbox list 1 20 132\nbox light due 26 20 132 10\n",
     "box state 020000000031 7 registered 0 200 1 1 0\nbox light open 50\n",
-    "box state 020000000031 7 registered 0 62500000 3125000 1 0\nbox list 3 5 80 50 73 60 100\n",
+    "box state 020000000031 7 registered 0 62500000 3125000 1 0\nbox list 3 5 110 50 105 60 120\n",
     "box state 020000000031 7 registered 0 62500000 3 1 0\nbox light warming 5\n",
     "box state 020000000031 0 registering 0 0 0 0 0\nbox light before 3 4 5\n",
     "box state 020000000031 0 requesting 60 0 0 0 0\nbox light asking 42\n",
+    "box state 020000000031 7 registered 0 200 3125000 1 0\nbox list 2 38 106 39 106\nbox light fading 32\n",
     "box state 020000000031 4294967295 wait 0 0 0 0 0\n",
     "box state 000000000000 0 wait 0 0 0 0 0\n",
 ];

@@ -154,6 +154,7 @@ fn examples_print_what_was_worked_out() {
     for (script, expected) in [
         example!("first-night"),
         example!("queue-lengths"),
+        example!("lingering-light"),
         (block("replay"), block("answers")),
     ] {
         for (core, make) in CORES {

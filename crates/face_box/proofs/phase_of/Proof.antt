@@ -27,12 +27,17 @@ returns-3 : tie.Need-returns-3
 unfolding phaseOf
 returns-3 c = rw (← c .before .before .before .quanta-of .ensures, ne-eqb _ _ (c .before .before .if1 .left), ne-eqb _ _ (c .before .if2 .left), eq-eqb _ _ (c .if3 .taken))
 
+returns-4 : tie.Need-returns-4
+unfolding phaseOf
+returns-4 c = rw (← c .before .before .before .before .quanta-of .ensures, ne-eqb _ _ (c .before .before .before .if1 .left), ne-eqb _ _ (c .before .before .if2 .left), ne-eqb _ _ (c .before .if3 .left), eq-eqb _ _ (c .if4 .taken))
+
 discovery-of-requires : tie.Need-discovery-of-requires
 discovery-of-requires c κs = search needs
 
-returns-4 : tie.Need-returns-4
+returns-5 : tie.Need-returns-5
 unfolding phaseOf
-returns-4 c = rw (c .discovery-of .ensures, ← c .before .before .before .before .quanta-of .ensures, ne-eqb _ _ (c .before .before .before .if1 .left), ne-eqb _ _ (c .before .before .if2 .left), ne-eqb _ _ (c .before .if3 .left))
+returns-5 c =
+    rw (c .discovery-of .ensures, ← c .before .before .before .before .before .quanta-of .ensures, ne-eqb _ _ (c .before .before .before .before .if1 .left), ne-eqb _ _ (c .before .before .before .if2 .left), ne-eqb _ _ (c .before .before .if3 .left), ne-eqb _ _ (c .before .if4 .left))
 
 pub phase-of-spec : {M : Type 1} → statement M
 phase-of-spec =
@@ -44,5 +49,6 @@ phase-of-spec =
     quanta-of-requires-2
     returns-2
     returns-3
+    returns-4
     discovery-of-requires
-    returns-4)
+    returns-5)

@@ -73,6 +73,12 @@ enum-told-4 c = search needs
 phase-requires-8 : tie.Need-phase-requires-8
 phase-requires-8 c κs = search needs
 
+enum-told-5 : tie.Need-enum-told-5
+enum-told-5 c = search needs
+
+phase-requires-9 : tie.Need-phase-requires-9
+phase-requires-9 c κs = search needs
+
 returns : tie.Need-returns
 returns c = rw (c .phase .ensures, c .before .enum-told .given .1)
 
@@ -96,6 +102,9 @@ returns-7 c = rw (c .phase7 .ensures, c .before .before .before .before .held4 .
 
 returns-8 : tie.Need-returns-8
 returns-8 c = rw (c .phase8 .ensures, c .before .enum-told4 .given .1)
+
+returns-9 : tie.Need-returns-9
+returns-9 c = rw (c .phase9 .ensures, c .before .enum-told5 .given .1)
 
 pub phase-words-spec : {M : Type 1} → statement M
 phase-words-spec =
@@ -124,6 +133,8 @@ phase-words-spec =
     phase-requires-7
     enum-told-4
     phase-requires-8
+    enum-told-5
+    phase-requires-9
     returns
     returns-2
     returns-3
@@ -131,4 +142,5 @@ phase-words-spec =
     returns-5
     returns-6
     returns-7
-    returns-8)
+    returns-8
+    returns-9)

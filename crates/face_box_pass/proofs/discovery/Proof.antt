@@ -48,13 +48,21 @@ returns-6 : tie.Need-returns-6
 unfolding discoveryOf
 returns-6 c = rw (c .rings-in4 .ensures, ne-eqb _ _ (c .before .before .before .before .before .if1 .left), c .before .before .before .before .if3 .left, c .before .before .before .if5 .taken, ne-eqb _ _ (c .before .before .if6 .left), eq-eqb _ _ (c .before .if7 .taken))
 
+rings-in-requires-5 : tie.Need-rings-in-requires-5
+rings-in-requires-5 c κs = search needs
+
 returns-7 : tie.Need-returns-7
 unfolding discoveryOf
-returns-7 c = rw (ne-eqb _ _ (c .before .before .before .before .if1 .left), c .before .before .before .if3 .left, c .before .before .if5 .taken, ne-eqb _ _ (c .before .if6 .left), ne-eqb _ _ (c .if7 .left))
+returns-7 c =
+    rw (c .rings-in5 .ensures, ne-eqb _ _ (c .before .before .before .before .before .before .if1 .left), c .before .before .before .before .before .if3 .left, c .before .before .before .before .if5 .taken, ne-eqb _ _ (c .before .before .before .if6 .left), ne-eqb _ _ (c .before .before .if7 .left), eq-eqb _ _ (c .before .if8 .taken))
 
 returns-8 : tie.Need-returns-8
 unfolding discoveryOf
-returns-8 c = rw (ne-eqb _ _ (c .before .before .if1 .left), c .before .if3 .left, c .if5 .left)
+returns-8 c = rw (ne-eqb _ _ (c .before .before .before .before .before .if1 .left), c .before .before .before .before .if3 .left, c .before .before .before .if5 .taken, ne-eqb _ _ (c .before .before .if6 .left), ne-eqb _ _ (c .before .if7 .left), ne-eqb _ _ (c .if8 .left))
+
+returns-9 : tie.Need-returns-9
+unfolding discoveryOf
+returns-9 c = rw (ne-eqb _ _ (c .before .before .if1 .left), c .before .if3 .left, c .if5 .left)
 
 pub discovery-spec : {M : Type 1} → statement M
 discovery-spec =
@@ -72,5 +80,7 @@ discovery-spec =
     returns-5
     rings-in-requires-4
     returns-6
+    rings-in-requires-5
     returns-7
-    returns-8)
+    returns-8
+    returns-9)

@@ -39,7 +39,7 @@ fn call(dice: &mut Dice, floor_box: &FloorBox) -> String {
         7 => advance(dice, floor_box),
         8 => queue_sets::line(&queue_sets::asked(dice)),
         _ => {
-            let random = dice.pick(&[0, 1, 100, 101, 250, u32::MAX, now.0]);
+            let random = dice.pick(&[0, 1, 68, 69, 101, 250, u32::MAX, now.0]);
             let frame = frame_for(dice, For::Box, now, HEAD);
             format!("box hear {random} {}", hex(&frame))
         }
@@ -71,7 +71,7 @@ fn advance(dice: &mut Dice, floor_box: &FloorBox) -> String {
 pub(crate) fn ticks(dice: &mut Dice) -> u64 {
     match dice.below(3) {
         0 => 1,
-        1 => dice.pick(&[0, 2, 31, 32, 33, 41, 42, 43, 74, 100]),
+        1 => dice.pick(&[0, 2, 31, 32, 33, 41, 42, 43, 74, 106]),
         _ => dice.below(700),
     }
 }

@@ -2,6 +2,7 @@
 //! timer at its ends, every kind of address, every length of output.
 
 mod advances;
+mod fading;
 mod reports;
 
 use super::messages::octets;
@@ -30,6 +31,10 @@ pub(crate) fn cases() -> Vec<(&'static str, Vec<String>)> {
         ("lent tables", tables()),
         ("queue sets heard", reports::heard()),
         ("queue sets asked for", reports::asked()),
+        ("fading in every state", fading::in_every_state()),
+        ("one grant behind another", fading::one_behind_another()),
+        ("lengths that are needed", fading::around_needed()),
+        ("fading worked out", fading::worked()),
         ("advances of the box", advances::of_boxes()),
         ("advances of the head", advances::of_heads()),
         ("advances worked out", advances::worked()),
@@ -39,7 +44,7 @@ pub(crate) fn cases() -> Vec<(&'static str, Vec<String>)> {
 fn grant() -> Grant {
     Grant {
         start: Count(20),
-        length: 100,
+        length: 132,
     }
 }
 
@@ -108,7 +113,7 @@ fn box_in(state: BoxState, light: Light) -> FloorBox {
 }
 
 /// Every phase of the transmitter, with so many ticks left.
-fn lights(left: u32, sync: u32) -> [Light; 8] {
+fn lights(left: u32, sync: u32) -> [Light; 9] {
     [
         Light::Rest,
         Light::Before {
@@ -126,23 +131,25 @@ fn lights(left: u32, sync: u32) -> [Light; 8] {
         },
         Light::Lit {
             left,
-            length: 100,
+            length: 132,
             sync,
         },
         Light::Open { left },
+        Light::Fading { left },
     ]
 }
 
+const BOX_STATES: [BoxState; 4] = [
+    BoxState::Wait,
+    BoxState::Registering,
+    BoxState::Requesting,
+    BoxState::Registered,
+];
+
 /// Every state with every phase of the transmitter, sound or not.
 fn boxes(left: u32) -> Vec<FloorBox> {
-    let states = [
-        BoxState::Wait,
-        BoxState::Registering,
-        BoxState::Requesting,
-        BoxState::Registered,
-    ];
     let with_lights = |state| lights(left, 4).map(|light| box_in(state, light));
-    states.into_iter().flat_map(with_lights).collect()
+    BOX_STATES.into_iter().flat_map(with_lights).collect()
 }
 
 fn box_messages() -> Vec<String> {
@@ -196,16 +203,16 @@ fn light_bounds() -> Vec<String> {
         32,
         36,
         42,
-        65_457,
+        65_425,
+        65_429,
         65_461,
-        65_493,
-        65_503,
+        65_471,
         62_500_000,
         0x7FFF_FFFF,
     ];
     for longest in longest {
         for left in [longest, longest + 1] {
-            for sync in [0, 4, 26, 27, 65_461, 65_462, 65_535] {
+            for sync in [0, 4, 26, 27, 65_429, 65_430, 65_535] {
                 for light in lights(left, sync) {
                     script.extend(box_lines(&box_in(BoxState::Registered, light)));
                     script.push("box tick 1".to_owned());
@@ -288,7 +295,7 @@ fn head_calls() -> Vec<String> {
         calls.push(format!("head admit {address} 1 7"));
         calls.push(format!("head reject {address} 1 7"));
     }
-    for (start, length, window) in [(5, 74, 1), (6, 73, 1), (4, 74, 1), (9, 80, 131_073)] {
+    for (start, length, window) in [(5, 106, 1), (6, 105, 1), (4, 106, 1), (9, 112, 131_073)] {
         calls.push(format!("head open {start} {length} 0 {window}"));
     }
     calls
@@ -421,7 +428,7 @@ fn outputs() -> Vec<String> {
             script.push(link_line(1, &registered));
             script.push("head tick 1".to_owned());
             script.push("head gate 1 0 0".to_owned());
-            script.push("head open 10 100 0 20".to_owned());
+            script.push("head open 10 120 0 20".to_owned());
             script.push(format!("head reject {OTHER} 1 2"));
             script.push(format!("head admit {OTHER} 1 2"));
             script.push("head deregister 1".to_owned());

@@ -2,7 +2,7 @@
 
 use super::messages::{fitting, frame_for, frame_of, granted, For};
 use super::states::{any_head, any_links, head_line, link_line};
-use super::values::{address, near, quanta, sync, ticks_ahead, BOX, HEAD};
+use super::values::{address, length_for, near, sync, ticks_ahead, BOX, HEAD};
 use crustnewt_tool::dice::Dice;
 use crustnewt_tool::replay::hex;
 use plain::numbers::LONGEST_WINDOW;
@@ -100,7 +100,9 @@ pub(crate) fn open(dice: &mut Dice, now: Count) -> String {
         _ => dice.below(500) as u32,
     };
     let start = near(dice, now).0;
-    format!("head open {start} {} {} {window}", quanta(dice), sync(dice))
+    let sync = sync(dice);
+    let length = length_for(dice, sync);
+    format!("head open {start} {length} {sync} {window}")
 }
 
 fn newcomer(dice: &mut Dice) -> String {

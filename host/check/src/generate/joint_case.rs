@@ -7,12 +7,12 @@
 use super::box_case::{self, next, ticks};
 use super::head_case::{self, gate, open};
 use super::queue_sets;
-use super::states::{box_lines, head_line, link_line};
+use super::states::{around_end, box_lines, head_line, link_line};
 use super::values::{count, near, other_source, running, BOX, HEAD};
 use crustnewt_core::PlainCore;
 use crustnewt_tool::dice::Dice;
 use crustnewt_tool::replay::{parse, Script, Stage};
-use plain::{BoxState, Count, Head, Link, Window};
+use plain::{BoxState, Count, Grant, Head, Link, Window};
 use std::collections::VecDeque;
 
 /// A frame on its way, as digits.
@@ -110,7 +110,7 @@ impl Joint<'_> {
             open(self.dice, now)
         } else {
             let start = now.0.wrapping_add(self.dice.below(300) as u32);
-            let length = 74 + self.dice.below(300);
+            let length = 106 + self.dice.below(300);
             format!("head open {start} {length} 0 {}", 400 + 2 * self.delay)
         };
         self.say(line);
@@ -121,11 +121,19 @@ impl Joint<'_> {
         self.say(line);
     }
 
-    /// A grant that the box can hear of in time.
+    /// A grant that the box can hear of in time, and another around its end.
     fn gate_soon(&mut self, now: Count) {
-        let start = now.0.wrapping_add(self.dice.below(300) as u32);
-        let length = 74 + self.dice.below(300);
-        self.say(format!("head gate 1 0 1 {start} {length}"));
+        let first = Grant {
+            start: Count(now.0.wrapping_add(self.dice.below(300) as u32)),
+            length: 106 + self.dice.below(300) as u32,
+        };
+        let second = around_end(self.dice, first);
+        let asked = 1 + self.dice.below(2);
+        let mut line = format!("head gate 1 0 {asked}");
+        for start in [first.start, second].into_iter().take(asked as usize) {
+            line.push_str(&format!(" {} {}", start.0, first.length));
+        }
+        self.say(line);
     }
 
     /// Brings running timers close to their ends.

@@ -1,7 +1,7 @@
 //! Messages of every kind, and frames whole and damaged.
 
 use super::queue_sets;
-use super::values::{address, count, near, other_source, quanta, sync, BOX, HEAD};
+use super::values::{address, count, length_for, near, other_source, quanta, sync, BOX, HEAD};
 use crustnewt_tool::dice::Dice;
 use plain::frame::{write, AckFlag, RegisterFlag, RequestFlag};
 use plain::{Address, Body, Count, Frame, Gate, Grant, Granted, LinkState, Message, QueueSet};
@@ -147,10 +147,11 @@ fn body_for(dice: &mut Dice, party: For, now: Count) -> Body {
             sync: sync(dice),
             pending: dice.half() as u8,
         },
-        (For::Box, 1) => Body::Discovery {
-            granted: granted(dice, now),
-            sync: sync(dice),
-        },
+        (For::Box, 1) => {
+            let (mut granted, sync) = (granted(dice, now), sync(dice));
+            granted.grant.length = length_for(dice, sync);
+            Body::Discovery { granted, sync }
+        }
         (For::Box, _) => Body::Gate(gate(dice, now)),
     }
 }

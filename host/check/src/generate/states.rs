@@ -1,9 +1,11 @@
 //! States to hand in, sound and unsound, and the lines that set them.
 
-use super::values::{address, count, edgy, near, quanta, running, sync, BOX, HEAD};
+use super::values::{address, count, edgy, length_for, near, quanta, running, sync, BOX, HEAD};
 use crustnewt_tool::dice::Dice;
 use plain::numbers::{needed_length, LONGEST, LONGEST_WINDOW, PERIOD, WAIT, WATCHDOG};
-use plain::{Address, BoxState, FloorBox, Grant, GrantList, Head, Light, Link, LinkState, Window};
+use plain::{
+    Address, BoxState, Count, FloorBox, Grant, GrantList, Head, Light, Link, LinkState, Window,
+};
 
 /// Of a thousand states, so many have something unsound about them.
 const SPOILED: u64 = 150;
@@ -46,21 +48,33 @@ fn list(dice: &mut Dice, floor_box: &FloorBox) -> GrantList {
     let grants = dice.pick(&[0, 0, 1, 2, 3, 15, 16]);
     let mut list = GrantList::new();
     for _ in 0..grants {
-        let twin = list.as_slice().last().copied().filter(|_| dice.chance(150));
+        let last = list.as_slice().last().copied();
+        let twin = last.filter(|_| dice.chance(150));
+        let before = last.filter(|_| dice.chance(300));
         let grant = Grant {
-            start: near(dice, floor_box.count),
-            length: quanta(dice),
+            start: match before {
+                Some(before) => around_end(dice, before),
+                None => near(dice, floor_box.count),
+            },
+            length: length_for(dice, floor_box.sync),
         };
         list.push(twin.unwrap_or(grant));
     }
     list
 }
 
+/// A start from 33 ticks before a grant's end, where its light may linger, to
+/// one behind it.
+pub(crate) fn around_end(dice: &mut Dice, grant: Grant) -> Count {
+    let end = grant.start.0.wrapping_add(grant.length);
+    Count(end.wrapping_add(1).wrapping_sub(dice.below(35) as u32))
+}
+
 fn light(dice: &mut Dice, floor_box: &FloorBox) -> Light {
     let sync = sync(dice).min(60_000);
     let spare = LONGEST - needed_length(sync);
     let chosen = floor_box.grants.as_slice().first().copied();
-    match dice.below(10) {
+    match dice.below(11) {
         0 => Light::Before {
             left: running(dice, 62_500_000),
             random: edgy(dice, spare).min(spare),
@@ -79,7 +93,7 @@ fn light(dice: &mut Dice, floor_box: &FloorBox) -> Light {
         5 => chosen.map_or(Light::Rest, |grant| Light::Due {
             left: running(dice, i32::MAX as u32),
             grant,
-            sync: grant.length.saturating_sub(74).min(floor_box.sync),
+            sync: grant.length.saturating_sub(106).min(floor_box.sync),
         }),
         6 => Light::Lit {
             left: running(dice, 32 + sync),
@@ -87,10 +101,22 @@ fn light(dice: &mut Dice, floor_box: &FloorBox) -> Light {
             sync,
         },
         7 => Light::Open {
-            left: running(dice, 65_503),
+            left: running(dice, 65_471),
+        },
+        8 => Light::Fading {
+            left: fading_left(dice, floor_box),
         },
         _ => Light::Rest,
     }
+}
+
+/// Ticks left of fading, often as many as to the start of a grant.
+fn fading_left(dice: &mut Dice, floor_box: &FloorBox) -> u32 {
+    let left = running(dice, 32);
+    let grants = floor_box.grants.as_slice().iter();
+    let mut starts = grants.filter_map(|grant| floor_box.count.ticks_until(grant.start));
+    let start = starts.find(|ticks| (1..=32).contains(ticks));
+    start.filter(|_| dice.chance(500)).unwrap_or(left)
 }
 
 /// Laser time for a sync, kept short so that windows are reached.
@@ -114,12 +140,12 @@ fn spoil_box(dice: &mut Dice, floor_box: &mut FloorBox) {
 
 /// A transmitter whose numbers needn't fit each other.
 fn wild_light(dice: &mut Dice, floor_box: &FloorBox) -> Light {
-    let longest = dice.pick(&[42, 32, 65_461, 65_493, 65_503, 62_500_000, i32::MAX as u32]);
+    let longest = dice.pick(&[42, 32, 65_429, 65_461, 65_471, 62_500_000, i32::MAX as u32]);
     let left = edgy(dice, longest);
     let (length, sync) = (quanta(dice), quanta(dice));
     let start = near(dice, floor_box.count);
     let random = edgy(dice, LONGEST);
-    match dice.below(7) {
+    match dice.below(8) {
         0 => Light::Before { left, random, sync },
         1 => Light::Random { left, sync },
         2 => Light::Warming { left },
@@ -130,7 +156,8 @@ fn wild_light(dice: &mut Dice, floor_box: &FloorBox) -> Light {
             sync,
         },
         5 => Light::Lit { left, length, sync },
-        _ => Light::Open { left },
+        6 => Light::Open { left },
+        _ => Light::Fading { left },
     }
 }
 
@@ -251,6 +278,7 @@ fn light_words(light: &Light) -> String {
         }
         Light::Lit { left, length, sync } => format!("lit {left} {length} {sync}"),
         Light::Open { left } => format!("open {left}"),
+        Light::Fading { left } => format!("fading {left}"),
     }
 }
 

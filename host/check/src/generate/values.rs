@@ -1,6 +1,7 @@
 //! Values that lie where mistakes are made.
 
 use crustnewt_tool::dice::Dice;
+use plain::numbers::{needed_length, LONGEST};
 use plain::{Address, Count};
 
 /// The head of most cases.
@@ -60,11 +61,21 @@ pub(crate) fn ticks_ahead(dice: &mut Dice, ends: &[u32]) -> u64 {
 
 /// A length or sync time that the wire can hold.
 pub(crate) fn quanta(dice: &mut Dice) -> u32 {
-    let near = dice.pick(&[0, 10, 42, 73, 74, 75, 84, 174, 65_461, 65_462, 65_535]);
+    let near = dice.pick(&[
+        0, 10, 42, 74, 105, 106, 107, 116, 174, 65_429, 65_430, 65_535,
+    ]);
     match dice.below(3) {
         0 => near,
         1 => dice.below(400) as u32,
         _ => edgy(dice, 65_535).min(65_535),
+    }
+}
+
+/// A length around the one that is needed for a sync time, or any.
+pub(crate) fn length_for(dice: &mut Dice, sync: u32) -> u32 {
+    match dice.below(3) {
+        0 => (needed_length(sync) + dice.below(3) as u32 - 1).min(LONGEST),
+        _ => quanta(dice),
     }
 }
 
@@ -89,13 +100,15 @@ pub(crate) fn count(dice: &mut Dice) -> Count {
 
 /// A count before, at or after another.
 pub(crate) fn near(dice: &mut Dice, count: Count) -> Count {
-    let offset = match dice.below(8) {
+    let offset = match dice.below(9) {
         0 => 0,
         1 => dice.below(10) as u32,
         2 => (dice.below(10) as u32).wrapping_neg(),
         3 => 62_500_000 + dice.below(3) as u32 - 1,
         4 => 0x8000_0000_u32.wrapping_add(dice.below(3) as u32) - 1,
         5 => dice.half(),
+        // Where light that was just ordered off is dark.
+        6 => 31 + dice.below(3) as u32,
         _ => dice.below(500) as u32,
     };
     Count(count.0.wrapping_add(offset))

@@ -1,11 +1,11 @@
 //! The proved core, spoiled.
 
-use crate::flaws::Flaw;
+use crate::flaws::{Flaw, OF_FADING};
 use crate::sets::zeroed;
 use crustnewt_core::{Advanced, BoxCore, BoxReply, Core, HeadCore, HeadReply, ProvedCore};
 use plain::{
-    Address, Body, FloorBox, Frame, GateRequest, Head, HeadNotice, HeadNoticeKind, Link, Message,
-    Newcomer, Next, OpenWindow, QueueSets, Window,
+    Address, Body, BoxState, FloorBox, Frame, GateRequest, Head, HeadNotice, HeadNoticeKind, Light,
+    Link, Message, Newcomer, Next, OpenWindow, QueueSets, Window,
 };
 
 /// The proved core with a flaw.
@@ -134,7 +134,19 @@ impl HeadCore for SpoiledHead {
         reply
     }
     fn open_window(&mut self, request: &OpenWindow) -> HeadReply {
-        self.1.open_window(request)
+        let reply = self.1.open_window(request);
+        if self.0 != Flaw::OpensShort || reply.number != 9 {
+            return reply;
+        }
+        let mut longer = *request;
+        longer.grant.length += 32;
+        let opened = self.1.open_window(&longer);
+        if opened.number != 0 {
+            return reply;
+        }
+        let length = request.grant.length as u16;
+        self.scribble(25, &length.to_be_bytes());
+        opened
     }
     fn admit(&mut self, newcomer: &Newcomer) -> HeadReply {
         self.1.admit(newcomer)
@@ -245,6 +257,48 @@ impl SpoiledBox {
         change(&mut state);
         self.1.set_state(&state);
     }
+
+    /// The state, where a flaw of fading has to know it.
+    fn before(&self) -> Option<FloorBox> {
+        OF_FADING.contains(&self.0).then(|| self.1.state())
+    }
+
+    /// What a call from this state has done to light that fades, spoiled.
+    fn spoil_fading(&mut self, before: Option<FloorBox>) {
+        let Some(before) = before else {
+            return;
+        };
+        let after = self.1.state();
+        let faded = matches!(before.light, Light::Fading { .. });
+        let light = match (self.0, after.light) {
+            (Flaw::RestsAtOrder, Light::Fading { .. }) if !faded => Light::Rest,
+            (Flaw::FadesShort, Light::Fading { left: left @ 2.. }) if !faded => {
+                Light::Fading { left: left - 1 }
+            }
+            (Flaw::RetryRests, Light::Fading { .. }) if before.state != after.state => {
+                match after.state {
+                    BoxState::Registering => Light::Rest,
+                    _ => after.light,
+                }
+            }
+            (Flaw::FadesInWait, Light::Rest) if faded && after.state == BoxState::Wait => {
+                before.light
+            }
+            _ => return,
+        };
+        self.change(|state| state.light = light);
+    }
+
+    /// Hears it as if light that fades were out.
+    fn hear_dark(&mut self, frame: &[u8], random: u32) -> BoxReply {
+        let before = self.1.state();
+        self.change(|state| state.light = Light::Rest);
+        let reply = self.1.hear(frame, random);
+        if self.1.state().light == Light::Rest {
+            self.change(|state| state.light = before.light);
+        }
+        reply
+    }
 }
 
 impl BoxCore for SpoiledBox {
@@ -256,7 +310,10 @@ impl BoxCore for SpoiledBox {
     }
     fn deregister(&mut self) -> BoxReply {
         assert!(self.0 != Flaw::Panics, "this is the flaw");
-        self.1.deregister()
+        let before = self.before();
+        let reply = self.1.deregister();
+        self.spoil_fading(before);
+        reply
     }
     fn report(&mut self, number: u8, sets: &[u8]) -> BoxReply {
         let before = self.1.state();
@@ -284,9 +341,16 @@ impl BoxCore for SpoiledBox {
         let Some(octets) = self.0.octets(frame) else {
             return BoxReply::refused(4);
         };
-        let reply = self.1.hear(&octets, random);
         let body = ProvedCore.read(frame).map(|message| message.body);
         let discovery = matches!(body, Ok(Body::Discovery { .. }));
+        let before = self.before();
+        let fades = |state: FloorBox| matches!(state.light, Light::Fading { .. });
+        let fading = before.is_some_and(|state| state.is_sound() && fades(state));
+        if self.0 == Flaw::ActsInFading && discovery && fading {
+            return self.hear_dark(&octets, random);
+        }
+        let reply = self.1.hear(&octets, random);
+        self.spoil_fading(before);
         let registered = reply.number == 0 && self.1.state().watchdog > 0;
         if self.0 == Flaw::WatchdogOnDiscovery && discovery && registered {
             self.change(|state| state.watchdog = 62_500_000);
@@ -297,15 +361,17 @@ impl BoxCore for SpoiledBox {
         reply
     }
     fn tick(&mut self) -> BoxReply {
+        let before = self.before();
         let reply = self.1.tick();
-        if let plain::Light::Lit {
+        self.spoil_fading(before);
+        if let Light::Lit {
             left: 32, length, ..
         } = self.1.state().light
         {
             if self.0 == Flaw::HiddenField {
                 self.change(|state| {
-                    let (left, length) = (32, length.max(75) - 1);
-                    state.light = plain::Light::Lit {
+                    let (left, length) = (32, length.max(107) - 1);
+                    state.light = Light::Lit {
                         left,
                         length,
                         sync: 0,
@@ -322,6 +388,7 @@ impl BoxCore for SpoiledBox {
             Flaw::TakesMore if ticks == 65_537 => 65_536,
             _ => ticks,
         });
+        self.spoil_fading(Some(before));
         let Advanced { reply, made } = advanced;
         match self.0 {
             Flaw::StopsBeforeRing if !reply.is_quiet() && made > 1 => {

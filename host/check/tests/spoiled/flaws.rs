@@ -102,6 +102,18 @@ pub enum Flaw {
     WaitingTells,
     /// The sets that are told are those of the REPORT before.
     OtherSets,
+    /// The transmitter is at rest when the laser is ordered off.
+    RestsAtOrder,
+    /// Light fades for a tick less than it should.
+    FadesShort,
+    /// Light that fades goes on in WAIT.
+    FadesInWait,
+    /// A wait for REGISTER that ends rests the transmitter.
+    RetryRests,
+    /// A discovery GATE acts while light fades.
+    ActsInFading,
+    /// The head's needed length has no laser-off time.
+    OpensShort,
 }
 
 impl Flaw {
@@ -144,6 +156,16 @@ impl Flaw {
         }
     }
 }
+
+/// The flaws of light that lingers.
+pub const OF_FADING: [Flaw; 6] = [
+    Flaw::RestsAtOrder,
+    Flaw::FadesShort,
+    Flaw::FadesInWait,
+    Flaw::RetryRests,
+    Flaw::ActsInFading,
+    Flaw::OpensShort,
+];
 
 /// The flaws of REPORTs that a script shows.
 pub const OF_REPORTS: [Flaw; 10] = [

@@ -10,7 +10,7 @@ use cores::Spoiled;
 use crustnewt_core::{Core, PlainCore};
 use crustnewt_tool::night::{self, Options, Progress, Scenario};
 use crustnewt_tool::replay::replay;
-use flaws::{Flaw, OF_ADVANCES, OF_REPORTS};
+use flaws::{Flaw, OF_ADVANCES, OF_FADING, OF_REPORTS};
 use plain::numbers::TICKS_PER_SECOND;
 
 /// Lines of the shortest script that shows a flaw beside another core. The
@@ -56,6 +56,7 @@ fn fixed_cases_find_flaws_too() {
     ]
     .into_iter()
     .chain(OF_REPORTS)
+    .chain(OF_FADING)
     {
         let failure = check_fixed(&PlainCore, &Spoiled(flaw)).unwrap_err();
         assert!(failure.script.len() <= 6, "{failure}");
@@ -83,6 +84,7 @@ fn each_flaw_is_found_and_shrunk() {
     ]
     .into_iter()
     .chain(OF_REPORTS)
+    .chain(OF_FADING)
     .chain(OF_ADVANCES)
     {
         let lines = found(&PlainCore, flaw);

@@ -105,7 +105,8 @@ enums!(
     Asking { left },
     Due { left, grant, sync },
     Lit { left, length, sync },
-    Open { left }
+    Open { left },
+    Fading { left }
 );
 enums!(
     BoxNotice,

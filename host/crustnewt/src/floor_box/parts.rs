@@ -97,6 +97,11 @@ pub enum Light {
         /// Ticks left.
         left: u32,
     },
+    /// Laser ordered off behind either window, and not yet dark.
+    Fading {
+        /// Ticks left.
+        left: u32,
+    },
 }
 
 const ADDRESS: usize = 0;
@@ -179,11 +184,13 @@ impl Light {
             | Light::Asking { left }
             | Light::Due { left, .. }
             | Light::Lit { left, .. }
-            | Light::Open { left } => left,
+            | Light::Open { left }
+            | Light::Fading { left } => left,
         }
     }
 
-    /// Whether the laser is on.
+    /// Whether the laser is ordered on: before and in a window, and not while
+    /// it fades.
     pub fn is_lit(&self) -> bool {
         matches!(
             self,
@@ -211,6 +218,7 @@ impl Light {
                 Light::Lit { left, length, sync }
             }
             7 => Light::Open { left },
+            8 => Light::Fading { left },
             _ => return None,
         })
     }
@@ -227,6 +235,7 @@ impl Light {
             Light::Due { left, grant, sync } => words(5, left, grant.word(), sync),
             Light::Lit { left, length, sync } => words(6, left, length.into(), sync),
             Light::Open { left } => words(7, left, 0, 0),
+            Light::Fading { left } => words(8, left, 0, 0),
         }
     }
 }

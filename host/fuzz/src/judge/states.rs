@@ -91,6 +91,7 @@ fn light(words: &[u64]) -> Option<Light> {
             sync,
         },
         7 => Light::Open { left },
+        8 => Light::Fading { left },
         _ => return None,
     };
     let (has_left, has_grant, has_sync) = match words[0] {

@@ -181,9 +181,10 @@ impl FloorBox {
             }
             Light::Open { .. } => {
                 answer.notices.push(BoxNotice::Close);
-                Light::Rest
+                Light::fading()
             }
-            Light::Asking { .. } | Light::Rest => Light::Rest,
+            Light::Asking { .. } => Light::fading(),
+            Light::Fading { .. } | Light::Rest => Light::Rest,
         };
     }
 

@@ -262,6 +262,7 @@ fn light(words: &mut Words<'_>) -> Option<Light> {
             sync: words.quanta()?,
         },
         b"open" => Light::Open { left },
+        b"fading" => Light::Fading { left },
         _ => return None,
     })
 }

@@ -46,38 +46,41 @@ with-beam-requires-4 c κs = search needs
 enum-told-3 : tie.Need-enum-told-3
 enum-told-3 c = search needs
 
+order-off-requires : tie.Need-order-off-requires
+order-off-requires c κs = search needs
+
+enum-known-self-3 : tie.Need-enum-known-self-3
+enum-known-self-3 c = search needs
+
 stopped-requires-3 : tie.Need-stopped-requires-3
 stopped-requires-3 c κs = search needs
 
 with-beam-requires-5 : tie.Need-with-beam-requires-5
 with-beam-requires-5 c κs = search needs
 
-enum-known-self-3 : tie.Need-enum-known-self-3
-enum-known-self-3 c = search needs
+enum-known-self-4 : tie.Need-enum-known-self-4
+enum-known-self-4 c = search needs
 
-stopped-requires-4 : tie.Need-stopped-requires-4
-stopped-requires-4 c κs = search needs
+open-for-requires : tie.Need-open-for-requires
+open-for-requires c κs = search needs
 
 with-beam-requires-6 : tie.Need-with-beam-requires-6
 with-beam-requires-6 c κs = search needs
 
-enum-known-self-4 : tie.Need-enum-known-self-4
-enum-known-self-4 c = search needs
-
-rest-requires : tie.Need-rest-requires
-rest-requires c κs = search needs
-
-with-beam-requires-7 : tie.Need-with-beam-requires-7
-with-beam-requires-7 c κs = search needs
-
 enum-told-4 : tie.Need-enum-told-4
 enum-told-4 c = search needs
 
-stopped-requires-5 : tie.Need-stopped-requires-5
-stopped-requires-5 c κs = search needs
+order-off-requires-2 : tie.Need-order-off-requires-2
+order-off-requires-2 c κs = search needs
 
-with-beam-requires-8 : tie.Need-with-beam-requires-8
-with-beam-requires-8 c κs = search needs
+enum-told-5 : tie.Need-enum-told-5
+enum-told-5 c = search needs
+
+stopped-requires-4 : tie.Need-stopped-requires-4
+stopped-requires-4 c κs = search needs
+
+with-beam-requires-7 : tie.Need-with-beam-requires-7
+with-beam-requires-7 c κs = search needs
 
 returns : tie.Need-returns
 returns c = rw (c .with-beam .ensures, c .before .stopped .ensures, c .before .before .enum-told .given .1)
@@ -92,16 +95,19 @@ returns-4 : tie.Need-returns-4
 returns-4 c = rw (c .with-beam4 .ensures, c .before .start .ensures, c .before .before .before .enum-told2 .given .1)
 
 returns-5 : tie.Need-returns-5
-returns-5 c = rw (c .with-beam5 .ensures, c .before .stopped3 .ensures, c .before .before .enum-told3 .given .1)
+returns-5 c = rw (c .order-off .ensures, c .before .enum-told3 .given .1)
 
 returns-6 : tie.Need-returns-6
-returns-6 c = rw (c .with-beam6 .ensures, c .before .stopped4 .ensures, c .before .before .before .self3 .given .1)
+returns-6 c = rw (c .with-beam5 .ensures, c .before .stopped3 .ensures, c .before .before .before .self3 .given .1)
 
 returns-7 : tie.Need-returns-7
-returns-7 c = rw (c .with-beam7 .ensures, c .before .rest .ensures, c .before .before .before .self4 .given .1)
+returns-7 c = rw (c .with-beam6 .ensures, c .before .open-for .ensures, c .before .before .before .self4 .given .1)
 
 returns-8 : tie.Need-returns-8
-returns-8 c = rw (c .with-beam8 .ensures, c .before .stopped5 .ensures, c .before .before .enum-told4 .given .1)
+returns-8 c = rw (c .order-off2 .ensures, c .before .enum-told4 .given .1)
+
+returns-9 : tie.Need-returns-9
+returns-9 c = rw (c .with-beam7 .ensures, c .before .stopped4 .ensures, c .before .before .enum-told5 .given .1)
 
 pub after-spec : {M : Type 1} → statement M
 after-spec =
@@ -121,17 +127,18 @@ after-spec =
     start-requires
     with-beam-requires-4
     enum-told-3
+    order-off-requires
+    enum-known-self-3
     stopped-requires-3
     with-beam-requires-5
-    enum-known-self-3
-    stopped-requires-4
-    with-beam-requires-6
     enum-known-self-4
-    rest-requires
-    with-beam-requires-7
+    open-for-requires
+    with-beam-requires-6
     enum-told-4
-    stopped-requires-5
-    with-beam-requires-8
+    order-off-requires-2
+    enum-told-5
+    stopped-requires-4
+    with-beam-requires-7
     returns
     returns-2
     returns-3
@@ -139,4 +146,5 @@ after-spec =
     returns-5
     returns-6
     returns-7
-    returns-8)
+    returns-8
+    returns-9)

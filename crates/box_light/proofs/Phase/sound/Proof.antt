@@ -34,7 +34,6 @@ enum-told-2 c = search needs
 runs-requires-3 : tie.Need-runs-requires-3
 runs-requires-3 c κs = search needs
 
--- /tmp/t2/target/rlib/clock.rlib/interface/lang/src/lib.rt:10:28
 enum-told-3 : tie.Need-enum-told-3
 enum-told-3 c = search needs
 
@@ -71,6 +70,12 @@ enum-told-4 c = search needs
 runs-requires-7 : tie.Need-runs-requires-7
 runs-requires-7 c κs = search needs
 
+enum-told-5 : tie.Need-enum-told-5
+enum-told-5 c = search needs
+
+runs-requires-8 : tie.Need-runs-requires-8
+runs-requires-8 c κs = search needs
+
 returns : tie.Need-returns
 returns c = rw (c .off .ensures, c .before .enum-told .given .1)
 
@@ -94,6 +99,9 @@ returns-7 c = rw (c .served2 .ensures, c .before .runs6 .ensures, c .before .bef
 
 returns-8 : tie.Need-returns-8
 returns-8 c = rw (c .runs7 .ensures, c .before .enum-told4 .given .1)
+
+returns-9 : tie.Need-returns-9
+returns-9 c = rw (c .runs8 .ensures, c .before .enum-told5 .given .1)
 
 pub sound-spec : {M : Type 1} → statement M
 sound-spec =
@@ -121,6 +129,8 @@ sound-spec =
     served-requires-2
     enum-told-4
     runs-requires-7
+    enum-told-5
+    runs-requires-8
     returns
     returns-2
     returns-3
@@ -128,4 +138,5 @@ sound-spec =
     returns-5
     returns-6
     returns-7
-    returns-8)
+    returns-8
+    returns-9)

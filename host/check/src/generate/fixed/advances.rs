@@ -64,7 +64,7 @@ pub(super) fn worked() -> Vec<String> {
     }
     script.push(registered(1090, full));
     script.extend(["box list 1 1100 200", "box light due 10 1100 200 10"].map(str::to_owned));
-    script.push("box advance 65536".to_owned());
+    script.extend([65_536, 65_536, 31, 1].map(|ticks| format!("box advance {ticks}")));
     script.push(registered(0, full));
     script.extend(["box list 0", "box light warming 5"].map(str::to_owned));
     script.extend([10, 10, 0].map(|ticks| format!("box advance {ticks}")));
