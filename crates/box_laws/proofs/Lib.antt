@@ -1,6 +1,9 @@
 pub mod Activated
 pub mod Discovery
 pub mod Laser
+pub mod Lasting
+pub mod Lit
 pub mod Served
 pub mod Sources
 pub mod Sums
+pub mod Window

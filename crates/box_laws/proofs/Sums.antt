@@ -48,7 +48,8 @@ use Rattle.box_laws.specs.Served.{ticksOn, Waits, Serves, GrantServed}
 use Rattle.box_laws.specs.Sound.{count-keeps}
 use Rattle.box_laws.specs.Sums.{Hears, grant, Played, SumEleven, SumTwelve}
 use Rattle.box_laws.proofs.Activated.{activate-leaves}
-use Rattle.box_laws.proofs.Served.{tick-is, chosen-one, grant-served}
+use Rattle.box_laws.proofs.Lasting.{tick-is}
+use Rattle.box_laws.proofs.Served.{chosen-one, grant-served}
 
 -- THE COUNT
 counts : (k : ℕ) (b : FloorBox) → Run b → b .processes .count .0 + k < 2 ^ 32 → ticksOn k b .processes .count .0 ≡ b .processes .count .0 + k

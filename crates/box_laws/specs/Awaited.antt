@@ -40,7 +40,7 @@ use Rattle.box_processes.specs.declared.Processes.{Processes}
 use Rattle.box_processes.specs.declared.Step.{Step}
 use Rattle.box_activation.specs.Activation.{lightUp, begin, headFor, serve, activate}
 use Rattle.box_ticking.specs.Tick.{ring, shine, timed, transmitted, tickOf}
-use Rattle.box_hearing.specs.Discovery.{randomFor, called, discover}
+use Rattle.box_hearing.specs.Discovery.{discover}
 use Rattle.box_hearing.specs.Gate.{gated}
 use Rattle.box_hearing.specs.Hear.{hearOf}
 use Rattle.box_hearing.specs.Register.{registerOf}

@@ -17,6 +17,7 @@ use Rattle.box_light.specs.Light.{lightIn, resting, laserOnFor, isOn, isLit, re
 use Rattle.box_light.specs.declared.Light.{Light}
 use Rattle.box_light.specs.declared.Phase.the-variants.{Due, Lit}
 use Rattle.box_telling.specs.Told.{noNotices, noticesOf}
+use Rattle.box_telling.specs.declared.Notice.{Notice}
 use Rattle.box_telling.specs.declared.Notice.the-variants.{Open, Close}
 use Rattle.box_telling.specs.declared.Notices.{Notices}
 use Rattle.box_calls.specs.Box.{tickOf}
@@ -44,10 +45,10 @@ pub record Lights (d n sync : ℕ) (b : FloorBox) : Type 0 where
 abbrev pub toldAt : ℕ → FloorBox → Notices
 toldAt k b = tickOf (ticksOn k b) .notices
 
--- the tick that enables transmission tells open, the one that ends it close, and the others up to the end nothing
-pub record Tells (d n sync : ℕ) (b : FloorBox) : Type 0 where
-  pub opens : (k : ℕ) → suc k ≡ d + (laserOn + sync) → toldAt k b ≡ noticesOf (Open ∷ [])
-  pub closes : (k : ℕ) → suc k ≡ d + n - laserOff → toldAt k b ≡ noticesOf (Close ∷ [])
+-- the tick that enables transmission tells the one notice, the tick that ends it the other, and the rest up to the end nothing
+pub record Tells (begun ended : Notice) (d n sync : ℕ) (b : FloorBox) : Type 0 where
+  pub opens : (k : ℕ) → suc k ≡ d + (laserOn + sync) → toldAt k b ≡ noticesOf (begun ∷ [])
+  pub closes : (k : ℕ) → suc k ≡ d + n - laserOff → toldAt k b ≡ noticesOf (ended ∷ [])
   pub silent : (k : ℕ) → k < d + n → suc k ≢ d + (laserOn + sync) → suc k ≢ d + n - laserOff → toldAt k b ≡ noNotices
 
 -- a box that waits d ticks for the grant e, and whose watchdog lasts to its end
@@ -60,7 +61,7 @@ module _ (d : ℕ) (e : Span) (sync : Quanta) (b : FloorBox) where
   pub record Serves : Type 0 where
     -- whatever else it holds
     pub lights : Lights d (e .length .0) (sync .0) b
-    pub tells : Tells d (e .length .0) (sync .0) b
+    pub tells : Tells Open Close d (e .length .0) (sync .0) b
     -- where it ends it is dark if the box holds no other
     pub ends : remove e (listOf (b .processes .list)) ≡ [] → lightAt (d + e .length .0) b ≡ resting
     -- and if it holds one other, which starts there, that one is lit in the same call

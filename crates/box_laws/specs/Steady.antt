@@ -7,7 +7,6 @@ use Rattle.frame.specs.Tests.{Passed}
 use Rattle.frame_range.specs.Laws.{message-parts}
 use Rattle.box_registration.specs.Laws.{reported-keeps}
 use Rattle.box_registration.specs.Registration.{reported}
-use Rattle.box_registration.specs.declared.State.the-variants.{Registering}
 use Rattle.box_processes.specs.Parts.{fresh, withCount}
 use Rattle.box_processes.specs.declared.Processes.{Processes}
 use Rattle.box_activation.specs.Activation.{activate}

@@ -13,6 +13,7 @@ use Rattle.frame.specs.declared.Reply.the-variants.{Done}
 use Rattle.box_light.specs.Light.{lightIn, resting, laserOnFor}
 use Rattle.box_light.specs.declared.Phase.the-variants.{Lit}
 use Rattle.box_registration.specs.declared.State.the-variants.{Registered}
+use Rattle.box_telling.specs.declared.Notice.the-variants.{Open, Close}
 use Rattle.box_calls.specs.Hear.{hearOf}
 use Rattle.box_calls.specs.declared.FloorBox.{FloorBox}
 use Rattle.box_laws.specs.Stated.{Run}
@@ -37,7 +38,7 @@ grant start length force = record { start = record { 0 = start }; length = recor
 pub record Played (b : FloorBox) : Type 0 where
   pub count : (k : ℕ) → k ≤ 300 → ticksOn k b .processes .count ≡ record { 0 = 1000 + k }
   pub lights : Lights 100 200 10 b
-  pub tells : Tells 100 200 10 b
+  pub tells : Tells Open Close 100 200 10 b
 
 -- a grant at 1100 of length 200: at 1300 the transmitter is at rest
 unfoldable pub SumEleven : Type 0

@@ -55,7 +55,8 @@ pub served-of : (length sync : Quanta) → needed (sync .0) ≤ length .0 → le
 unfolding served
 served-of length sync h k = rw (le-leb (needed (sync .0)) (length .0) h, le-leb (length .0) 65535 k)
 
-due-parts : (t : Timer) (entry : Span) (sync : Quanta) (s : GrantList) → soundIn (Due entry sync) t s ≡ true
+-- and of a grant that is waited for
+pub due-parts : (t : Timer) (entry : Span) (sync : Quanta) (s : GrantList) → soundIn (Due entry sync) t s ≡ true
     → (runs t (2 ^ 31 - 1) ≡ true) × (holds entry (listOf s) ≡ true) × (served (entry .length) sync ≡ true)
 due-parts t entry sync s h =
     let p = and-eq-true-iff (runs t (2 ^ 31 - 1) && holds entry (listOf s)) (served (entry .length) sync) .0 h in
@@ -63,7 +64,7 @@ due-parts t entry sync s h =
     (q .0, q .1, p .1)
 
 -- the timers that a phase starts
-on-for : (sync : Quanta) → sync .0 ≤ 65535 → laserOnFor sync .left ≡ laserOn + sync .0
+pub on-for : (sync : Quanta) → sync .0 ≤ 65535 → laserOnFor sync .left ≡ laserOn + sync .0
 unfolding laserOnFor
 on-for sync h = omega arith
 

@@ -117,7 +117,7 @@ fn a_grant_is_told_and_lit() {
     let light = floor_box.parts().light;
     let (left, length, sync) = (32, 200, 0);
     assert_eq!(light, Light::Lit { left, length, sync });
-    assert!(light.is_lit() && light.left() == 32);
+    assert!(light.is_on() && light.left() == 32);
     // Of the 200 transmission has what the laser leaves: 200 - 32 - 32.
     for (ticks, notice) in [(32, BoxNotice::Open), (136, BoxNotice::Close)] {
         let Advanced { reply, made } = floor_box.advance(1000).unwrap();
@@ -125,7 +125,7 @@ fn a_grant_is_told_and_lit() {
     }
     let light = floor_box.parts().light;
     assert_eq!(light, Light::Fading { left: 32 });
-    assert!(!light.is_lit() && light.left() == 32);
+    assert!(!light.is_on() && light.left() == 32);
 }
 
 #[test]

@@ -191,7 +191,7 @@ impl Light {
 
     /// Whether the laser is ordered on: before and in a window, and not while
     /// it fades.
-    pub fn is_lit(&self) -> bool {
+    pub fn is_on(&self) -> bool {
         matches!(
             self,
             Light::Warming { .. } | Light::Asking { .. } | Light::Lit { .. } | Light::Open { .. }
