@@ -59,7 +59,6 @@ enough-less Registered v w r h e = omega arith
 
 -- the registration's part: state and sync stay, the timer has one tick less, nothing is told
 pub record Timed (s : State) (w : ℕ) (p : Processes) (a : Stage) : Type 0 where
-  count : a .next .count ≡ nextOf (p .count)
   pub list : a .next .list ≡ p .list
   light : a .next .light ≡ p .light
   pub state : a .next .registration .state ≡ s
@@ -92,16 +91,16 @@ unfolding timed tickReport
 timed-on Wait w p e h = absurd h
 timed-on Registering w p e h =
     rw (registering-ticks (p .registration) e)
-    (record { count = refl; list = refl; light = refl; state = e; enough = tt; sync = refl; notice = refl })
+    (record { list = refl; light = refl; state = e; enough = tt; sync = refl; notice = refl })
 timed-on RegisterReq w p e h =
     rw (request-ticks (p .registration) e (omega arith))
-    (record { count = refl; list = refl; light = refl; state = e; enough = omega arith; sync = refl; notice = refl })
+    (record { list = refl; light = refl; state = e; enough = omega arith; sync = refl; notice = refl })
 timed-on Registered w p e h =
     let q = withCount p (nextOf (p .count)) in
     rw (registered-ticks (p .registration) e (omega arith))
     (either (λ (t : Ticked). Timed Registered w p (ring (t .bell) (withRegistration q (t .registration)))) (ticked (p .registration .report) .rang) _ _
-    (λ _. record { count = refl; list = refl; light = refl; state = e; enough = omega arith; sync = refl; notice = refl })
-    (λ _. record { count = refl; list = refl; light = refl; state = e; enough = omega arith; sync = refl; notice = refl }))
+    (λ _. record { list = refl; light = refl; state = e; enough = omega arith; sync = refl; notice = refl })
+    (λ _. record { list = refl; light = refl; state = e; enough = omega arith; sync = refl; notice = refl }))
 
 -- then the transmitter's, and activation
 pub tick-is : (b : FloorBox) → Run b → tickOf b .next .processes ≡ activate (processesTick (b .processes) .next)

@@ -39,6 +39,18 @@ pub record Dark (d : ℕ) (b : FloorBox) : Type 0 where
   pub sends : (k : ℕ) → k < d → remaining (lightAt k b) ≡ 0
   pub tells : (k : ℕ) → k < d → toldAt k b ≡ noNotices
 
+-- a phase that waits is dark to its end
+pub waits-dark : (s : State) (n w : ℕ) (b : FloorBox) (t : Timer) → t .left ≡ suc n → Lasts s (suc n + w) b → (f : Phase) → light b ≡ lightIn f t
+    → rests f ≡ false → glows f ≡ false → sends f ≡ false
+    → ((q : Processes) → shine (after f .beam) (withLight q (after f .light)) .notice ≡ Notice.Nothing) → Dark (suc n) b
+waits-dark s n w b t h o f is r g e m =
+    let at : (k : ℕ) → k < suc n → lightAt k b ≡ passedOf (lightIn f t) k = λ k i. on s n w b t h o f is r k (omega arith) .light in
+    record {
+      lit = λ k i. rw (at k i) (seen f t k .1 ∙ g);
+      sends = λ k i. rw (at k i) (seen f t k .2 ∙ rw e);
+      tells = λ k i. mute-all s n w b t h o f is r m k (omega arith);
+    }
+
 -- what comes behind them
 module _ (d n sync : ℕ) (b : FloorBox) (z : Dark d b) (h : laserOff ≤ n) where
   pub lights-behind : Lights 0 n sync (ticksOn d b) → Lights d n sync b

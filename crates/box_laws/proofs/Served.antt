@@ -1,6 +1,6 @@
 -- The laser serves a grant: it is waited for, lit, open and fading, and what comes at its end.
 -- Assumes nothing.
-use Prim.Native.Nat.{ℕ, zero, suc, _+_, _-_, _^_, _≤_, _<_}
+use Prim.Native.Nat.{ℕ, zero, suc, _+_, _-_, _^_, _≤_}
 use mathlib.Core.Path.{_≡_, refl, ap, _∙_}
 use mathlib.Core.Bool.{false, _&&_}
 use mathlib.Core.List.{[], _∷_}
@@ -24,7 +24,6 @@ use Rattle.box_grants.specs.declared.Chosen.the-variants as chosen
 use Rattle.box_grants.specs.declared.GrantList.{GrantList}
 use Rattle.box_light.specs.Laws.{served-in, due-parts, on-for}
 use Rattle.box_light.specs.Light.{lightIn, resting, fading, laserOnFor, openFor, atRest}
-use Rattle.box_light.specs.Pass.{passedOf}
 use Rattle.box_light.specs.declared.Phase.the-variants.{Due, Lit, Open}
 use Rattle.box_registration.specs.Registration.{isRegistered}
 use Rattle.box_registration.specs.declared.State.the-variants.{Registered}
@@ -38,8 +37,8 @@ use Rattle.box_laws.specs.Runs.{run-holds}
 use Rattle.box_laws.specs.Served.{ticksOn, lightAt, Lights, Tells, Waits, Serves, GrantServed}
 use Rattle.box_laws.specs.Sound.{registered-is}
 use Rattle.box_laws.proofs.Activated.{activate-leaves}
-use Rattle.box_laws.proofs.Lasting.{Lasts, Leaves, Ended, on-time, left-as, rung, from, light, weaker, on, next, mute-all}
-use Rattle.box_laws.proofs.Lit.{seen, Dark, lights-behind, tells-behind, Burns, end, lights-of, tells-of}
+use Rattle.box_laws.proofs.Lasting.{Lasts, Leaves, Ended, on-time, left-as, rung, from, light, weaker, on, next}
+use Rattle.box_laws.proofs.Lit.{Dark, waits-dark, lights-behind, tells-behind, Burns, end, lights-of, tells-of}
 
 -- THE LAST TICK of each phase
 module _ (w : ℕ) (b : FloorBox) (o : Lasts Registered (suc w) b) (t : Timer) (h : t .left ≡ 1) where
@@ -156,17 +155,8 @@ module _ (d : ℕ) (e : Span) (sync : Quanta) (b : FloorBox) (u : Waits (suc d) 
         told = λ q. (refl, refl);
       }
 
-  -- before it
-  waiting-at : (k : ℕ) → k < suc d → lightAt k b ≡ passedOf (lightIn (Due e sync) due) k
-  waiting-at k h = on Registered d whole b due refl lasts (Due e sync) (u .due) refl k (omega arith) .light
-
   dark : Dark (suc d) b
-  dark =
-      record {
-        lit = λ k h. rw (waiting-at k h) (seen (Due e sync) due k .1);
-        sends = λ k h. rw (waiting-at k h) (seen (Due e sync) due k .2);
-        tells = λ k h. mute-all Registered d whole b due refl lasts (Due e sync) (u .due) refl (λ q. refl) k (omega arith);
-      }
+  dark = waits-dark Registered d whole b due refl lasts (Due e sync) (u .due) refl refl refl (λ q. refl)
 
   lights : Lights (suc d) whole (sync .0) b
   lights =

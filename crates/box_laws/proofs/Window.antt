@@ -1,6 +1,6 @@
 -- The light of a discovery GATE: the start is waited for, then the random wait, and then it is lit as a grant of just the needed length.
 -- Assumes nothing.
-use Prim.Native.Nat.{ℕ, zero, suc, _+_, _-_, _≤_, _<_}
+use Prim.Native.Nat.{ℕ, zero, suc, _+_, _-_, _≤_}
 use mathlib.Core.Path.{_≡_, refl, ap, _∙_}
 use mathlib.Core.Bool.{Bool, true, false, and-false, and-eq-true-iff}
 use mathlib.Core.Logic.{⊎-elim}
@@ -19,9 +19,7 @@ use Rattle.frame.specs.declared.Message.{Message}
 use Rattle.frame_range.specs.Fits.{fitsGrant, fitsBody}
 use Rattle.frame_range.specs.Laws.{message-parts}
 use Rattle.box_light.specs.Laws.{on-for}
-use Rattle.box_light.specs.Light.{lightIn, resting, fading, laserOnFor, randomly, rests, atRest, glows, sends}
-use Rattle.box_light.specs.Pass.{passedOf}
-use Rattle.box_light.specs.Tick.{after}
+use Rattle.box_light.specs.Light.{lightIn, resting, fading, laserOnFor, randomly, rests, atRest, sends}
 use Rattle.box_light.specs.declared.Light.{Light}
 use Rattle.box_light.specs.declared.Phase.{Phase}
 use Rattle.box_light.specs.declared.Phase.the-variants.{Before, Random, Warming, Asking}
@@ -30,7 +28,6 @@ use Rattle.box_telling.specs.declared.Notice.{Notice}
 use Rattle.box_processes.specs.Parts.{withCount, withLight}
 use Rattle.box_processes.specs.declared.Processes.{Processes}
 use Rattle.box_activation.specs.Activation.{activate}
-use Rattle.box_ticking.specs.Tick.{shine}
 use Rattle.box_hearing.specs.Discovery.{randomFor, called, discover}
 use Rattle.box_calls.specs.Answer.{accepted}
 use Rattle.box_calls.specs.Box.{tickOf}
@@ -41,8 +38,8 @@ use Rattle.box_laws.specs.Calls.{call-accepted}
 use Rattle.box_laws.specs.Served.{ticksOn, lightAt, Lights, Tells}
 use Rattle.box_laws.specs.Stated.{hear, calls}
 use Rattle.box_laws.specs.Window.{Called, Asks, WindowServed, WaitInside}
-use Rattle.box_laws.proofs.Lasting.{Lasts, Leaves, on-time, left-in, left-as, rung, from, light, light-from, told-from, on, next, mute-all}
-use Rattle.box_laws.proofs.Lit.{seen, Dark, lights-behind, tells-behind, Burns, end, lights-of, tells-of}
+use Rattle.box_laws.proofs.Lasting.{Lasts, Leaves, on-time, left-in, left-as, rung, from, light, light-from, told-from, on, next}
+use Rattle.box_laws.proofs.Lit.{Dark, waits-dark, lights-behind, tells-behind, Burns, end, lights-of, tells-of}
 
 -- THE LAST TICK of each phase
 randomly-busy : (random sync : Quanta) → atRest (randomly random sync) ≡ false
@@ -90,19 +87,6 @@ dark-join c d b x y =
       tells = λ k h. ⊎-elim (x .tells k) (λ (m : c ≤ k). rw (told-from c k b m) (y .tells (k - c) (omega arith))) (cut k c);
     }
 
--- a phase that waits
-waits-dark : (n : ℕ) (b : FloorBox) (t : Timer) (f : Phase) → t .left ≡ suc n → Lasts Registering 0 b → light b ≡ lightIn f t
-    → rests f ≡ false → glows f ≡ false → sends f ≡ false
-    → ((q : Processes) → shine (after f .beam) (withLight q (after f .light)) .notice ≡ Notice.Nothing) → Dark (suc n) b
-waits-dark n b t f h o is r g s m =
-    let l = any 0 (suc n + 0) b o in
-    let at : (k : ℕ) → k < suc n → lightAt k b ≡ passedOf (lightIn f t) k = λ k i. on Registering n 0 b t h l f is r k (omega arith) .light in
-    record {
-      lit = λ k i. rw (at k i) (seen f t k .1 ∙ g);
-      sends = λ k i. rw (at k i) (seen f t k .2 ∙ rw s);
-      tells = λ k i. mute-all Registering n 0 b t h l f is r m k (omega arith);
-    }
-
 -- dark for so many ticks, and then the laser goes on
 record Warms (d : ℕ) (sync : Quanta) (b : FloorBox) : Type 0 where
   dark : Dark d b
@@ -117,7 +101,7 @@ random-warms (suc n) sync b o is =
     let i : light b ≡ lightIn (Random sync) t = is ∙ rw (ne-eqb (suc n) 0 (omega arith)) in
     let x = next Registering n 0 b t refl (any 0 (suc n + 0) b o) (Random sync) i refl Registering 0 (lightIn Warming (laserOnFor sync)) (λ g. g)
     (λ c l u j h. random-ends 0 c l u h sync j) in
-    record { dark = waits-dark n b t (Random sync) refl o i refl refl refl (λ q. refl); lasts = x .lasts; warming = x .light }
+    record { dark = waits-dark Registering n 0 b t refl (any 0 (suc n + 0) b o) (Random sync) i refl refl refl (λ q. refl); lasts = x .lasts; warming = x .light }
 
 start-warms : (d r : ℕ) (sync : Quanta) (b : FloorBox) → Lasts Registering 0 b → light b ≡ called (Ahead (record { 0 = d })) (record { 0 = r }) sync → Warms (d + r) sync b
 start-warms zero r sync b o is =
@@ -133,7 +117,7 @@ start-warms (suc n) r sync b o is =
     let z : suc n + r - suc n ≡ r = omega arith in
     let at : ticksOn (suc n + r) b ≡ ticksOn r (ticksOn (suc n) b) = from (suc n) (suc n + r) b (omega arith) ∙ rw z in
     record {
-      dark = dark-join (suc n) r b (waits-dark n b t f refl o i refl refl refl (λ q. refl)) (y .dark);
+      dark = dark-join (suc n) r b (waits-dark Registering n 0 b t refl (any 0 (suc n + 0) b o) f i refl refl refl (λ q. refl)) (y .dark);
       lasts = rw at (y .lasts);
       warming = ap light at ∙ y .warming;
     }

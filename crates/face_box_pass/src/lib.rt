@@ -7,6 +7,7 @@ ghost use Rattle.face_box.specs.Box.{isClear};
 ghost use Rattle.face_box_pass.specs.Block.{untilCall};
 ghost use Rattle.face_box_pass.specs.Judging.{ringsIn, timesOf, fitsBeside, discoveryOf, isServed, lightOf, isOwn, areShort, isAmong, areHeld, isListed, shinesOf, judgedOf};
 ghost use Rattle.face_box_pass.specs.Passing.{movedOf, passedWords};
+use clock::Quanta;
 use clock::Timer;
 use face_words::least;
 use face_words::less;
@@ -20,10 +21,25 @@ const GRANTS: usize = 13;
 // A count is below this.
 const COUNTS: u64 = 0x1_0000_0000;
 
-// A length, a sync time or a port is sixteen bits; a grant's sync time leaves room for what the grant needs beside it.
+// A length, a sync time or a port is sixteen bits.
 const SIXTEEN_BITS: u64 = 0xFFFF;
 
-const LONGEST_SYNC: u64 = 65_429;
+// The core's lengths, as words.
+const LASER_ON: u64 = Quanta::LASER_ON.0 as u64;
+
+const FRAME: u64 = Quanta::FRAME.0 as u64;
+
+const LASER_OFF: u64 = Quanta::LASER_OFF.0 as u64;
+
+// What a grant needs beside its sync time, and the longest sync time that leaves room for it.
+const NEEDED: u64 = LASER_ON + FRAME + LASER_OFF;
+
+const LONGEST_SYNC: u64 = SIXTEEN_BITS - NEEDED;
+
+// The longest that a discovery window's laser settles, and that a normal window is open.
+const LONGEST_WARMING: u64 = SIXTEEN_BITS - FRAME - LASER_OFF;
+
+const LONGEST_OPEN: u64 = SIXTEEN_BITS - LASER_ON - LASER_OFF;
 
 // A timer that runs, and has no more left than its longest setting: the ticks before the one at which it rings. None of any other.
 fn rings_in(left: u64, most: u64) -> u64
@@ -78,7 +94,7 @@ fn is_served(length: u64, sync: u64) -> bool
     if LONGEST_SYNC < sync {
         return false;
     }
-    (106 + sync <= length) & (length <= SIXTEEN_BITS)
+    (NEEDED + sync <= length) & (length <= SIXTEEN_BITS)
 }
 
 // The phases of discovery, and fading.
@@ -99,13 +115,13 @@ fn discovery(phase: u64, left: u64, grant: u64, sync: u64) -> u64
     }
     if (grant == 0) & (sync == 0) {
         if phase == 3 {
-            return rings_in(left, 65_461);
+            return rings_in(left, LONGEST_WARMING);
         }
         if phase == 4 {
-            return rings_in(left, 42);
+            return rings_in(left, FRAME);
         }
         if phase == 8 {
-            return rings_in(left, 32);
+            return rings_in(left, LASER_OFF);
         }
     }
     0
@@ -117,13 +133,13 @@ fn light(phase: u64, left: u64, grant: u64, sync: u64) -> u64
 {
     if phase == 7 {
         if (grant == 0) & (sync == 0) {
-            return rings_in(left, 65_471);
+            return rings_in(left, LONGEST_OPEN);
         }
         return 0;
     }
     if phase == 6 {
         if is_served(grant, sync) {
-            return rings_in(left, 32 + sync);
+            return rings_in(left, LASER_ON + sync);
         }
         return 0;
     }
