@@ -65,6 +65,7 @@ Awaited p s = awaits p ≡ true → isRegistering s ≡ true
 abbrev pub Calm : Processes → Type 0
 Calm p = Awaited (p .light .phase) (p .registration .state)
 
+-- a phase that has none on its way
 pub none : {P : Type 0} → false ≡ true → P
 none a = absurd (false≢true a)
 
