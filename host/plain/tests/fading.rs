@@ -1,62 +1,18 @@
 //! Light that lingers (R133, R134, R244 to R246), worked by hand from the rules.
 
+mod boxes;
+
+use boxes::{discovery, gate, grant, notices, register, registered, registering};
 use plain::frame::RegisterFlag;
 use plain::{
-    Address, Body, BoxAnswer, BoxNotice, BoxState, Count, FloorBox, Gate, Grant, GrantList,
-    Granted, Light, Message, Next,
+    BoxAnswer, BoxNotice, BoxState, Count, FloorBox, Grant, GrantList, Light, Message, Next,
 };
 
-const BOX: Address = Address(0x0200_0000_0031);
-const HEAD: Address = Address(0x0A0B_0C0D_0E0F);
 const ORDERED_OFF: Light = Light::Fading { left: 32 };
 
-fn granted(start: u32, length: u32) -> Granted {
-    let start = Count(start);
-    Granted {
-        grant: Grant { start, length },
-        force: false,
-    }
-}
-
-fn to_box(stamp: u32, body: Body) -> Message {
-    Message {
-        to: BOX,
-        from: HEAD,
-        stamp: Count(stamp),
-        body,
-    }
-}
-
-fn gate(stamp: u32, grants: &[Granted]) -> Message {
-    to_box(stamp, Body::Gate(Gate::of(grants).unwrap()))
-}
-
 /// A discovery GATE with stamp 1000 and sync 0, to everyone.
-fn discovery(start: u32, length: u32) -> Message {
-    let granted = granted(start, length);
-    Message {
-        to: Address::EVERYONE,
-        ..to_box(1000, Body::Discovery { granted, sync: 0 })
-    }
-}
-
-fn register(flag: RegisterFlag) -> Message {
-    let body = Body::Register {
-        port: 1,
-        flag,
-        sync: 0,
-        pending: 16,
-    };
-    to_box(1000, body)
-}
-
-fn registering() -> FloorBox {
-    FloorBox {
-        address: BOX,
-        count: Count(1000),
-        state: BoxState::Registering,
-        ..FloorBox::default()
-    }
+fn call(start: u32, length: u32) -> Message {
+    discovery(1000, start, length, 0)
 }
 
 fn requesting(wait: u32) -> FloorBox {
@@ -67,21 +23,9 @@ fn requesting(wait: u32) -> FloorBox {
     }
 }
 
-/// Registered at count 1000 with this sync.
-fn registered(sync: u32) -> FloorBox {
-    FloorBox {
-        state: BoxState::Registered,
-        watchdog: 62_500_000,
-        report: 3_125_000,
-        port: 1,
-        sync,
-        ..registering()
-    }
-}
-
 /// Registered with sync 10, with these grants just heard.
-fn granting(grants: &[Granted]) -> FloorBox {
-    let mut floor_box = registered(10);
+fn granting(grants: &[Grant]) -> FloorBox {
+    let mut floor_box = registered(1000, 10);
     floor_box.hear(&gate(1000, grants), 0).unwrap();
     floor_box
 }
@@ -92,10 +36,6 @@ fn lit(length: u32) -> Light {
         length,
         sync: 10,
     }
-}
-
-fn notices(answer: &BoxAnswer) -> Vec<BoxNotice> {
-    answer.notices.iter().copied().collect()
 }
 
 /// The ticks that tell something or bring another phase: count, notices and
@@ -115,7 +55,7 @@ fn stations(floor_box: &mut FloorBox, ticks: u32) -> Vec<(u32, Vec<BoxNotice>, L
 /// Sums 11 and 12, to the second grant's end.
 #[test]
 fn two_grants_end_to_end() {
-    let mut floor_box = granting(&[granted(1100, 200), granted(1300, 200)]);
+    let mut floor_box = granting(&[grant(1100, 200), grant(1300, 200)]);
     let expected = [
         (1100, vec![], lit(200)),
         (1142, vec![BoxNotice::Open], Light::Open { left: 126 }),
@@ -132,13 +72,13 @@ fn two_grants_end_to_end() {
 #[test]
 fn a_start_inside_fading_is_lost() {
     for start in [1268, 1270, 1299] {
-        let mut floor_box = granting(&[granted(1100, 200), granted(start, 200)]);
+        let mut floor_box = granting(&[grant(1100, 200), grant(start, 200)]);
         let seen = stations(&mut floor_box, 299);
         assert_eq!(
             seen.last(),
             Some(&(1268, vec![BoxNotice::Close], ORDERED_OFF))
         );
-        assert_eq!(floor_box.grants.as_slice(), [granted(start, 200).grant]);
+        assert_eq!(floor_box.grants.as_slice(), [grant(start, 200)]);
         assert_eq!(stations(&mut floor_box, 1), [(1300, vec![], Light::Rest)]);
         assert!(floor_box.grants.is_empty());
     }
@@ -146,10 +86,10 @@ fn a_start_inside_fading_is_lost() {
 
 #[test]
 fn the_shortest_grant_opens_for_one_control_frame() {
-    let mut floor_box = granting(&[granted(1100, 115)]);
+    let mut floor_box = granting(&[grant(1100, 115)]);
     assert!(floor_box.grants.is_empty());
     assert_eq!(stations(&mut floor_box, 300), []);
-    let mut floor_box = granting(&[granted(1100, 116)]);
+    let mut floor_box = granting(&[grant(1100, 116)]);
     let expected = [
         (1100, vec![], lit(116)),
         (1142, vec![BoxNotice::Open], Light::Open { left: 42 }),
@@ -164,7 +104,7 @@ fn the_shortest_grant_opens_for_one_control_frame() {
 fn a_discovery_window_fades_without_a_notice() {
     for (random, wait, warming) in [(250, 43, 2043), (101, 32, 2032)] {
         let mut floor_box = registering();
-        floor_box.hear(&discovery(2000, 174), random).unwrap();
+        floor_box.hear(&call(2000, 174), random).unwrap();
         let waiting = Light::Random {
             left: wait,
             sync: 0,
@@ -188,10 +128,10 @@ fn a_discovery_window_fades_without_a_notice() {
 fn the_shortest_discovery_grant_leaves_no_random_wait() {
     for random in [0, 1, 68, 101, u32::MAX] {
         let mut floor_box = registering();
-        floor_box.hear(&discovery(1000, 106), random).unwrap();
+        floor_box.hear(&call(1000, 106), random).unwrap();
         assert_eq!(floor_box.light, Light::Warming { left: 32 });
         let mut floor_box = registering();
-        floor_box.hear(&discovery(1000, 105), random).unwrap();
+        floor_box.hear(&call(1000, 105), random).unwrap();
         assert_eq!(floor_box.light, Light::Rest);
     }
 }
@@ -199,7 +139,7 @@ fn the_shortest_discovery_grant_leaves_no_random_wait() {
 /// 280 ticks on the transmitter has 20 left to fade.
 #[test]
 fn a_client_that_deregisters_a_fading_box_rests_it() {
-    let mut floor_box = granting(&[granted(1100, 200), granted(1300, 200)]);
+    let mut floor_box = granting(&[grant(1100, 200), grant(1300, 200)]);
     stations(&mut floor_box, 280);
     assert_eq!(floor_box.light, Light::Fading { left: 20 });
     floor_box.deregister().unwrap();
@@ -212,7 +152,7 @@ fn a_client_that_deregisters_a_fading_box_rests_it() {
     };
     assert_eq!(floor_box, waiting);
     floor_box.register().unwrap();
-    floor_box.hear(&discovery(1000, 106), 0).unwrap();
+    floor_box.hear(&call(1000, 106), 0).unwrap();
     assert_eq!(floor_box.light, Light::Warming { left: 32 });
 }
 
@@ -223,11 +163,13 @@ fn every_way_into_wait_rests_a_fading_box() {
         ..floor_box
     };
     let mut refused = fading(requesting(9));
-    refused.hear(&register(RegisterFlag::Nack), 0).unwrap();
-    let mut dropped = fading(registered(0));
-    let farewell = register(RegisterFlag::Deregister);
+    refused
+        .hear(&register(1000, RegisterFlag::Nack, 1, 0), 0)
+        .unwrap();
+    let mut dropped = fading(registered(1000, 0));
+    let farewell = register(1000, RegisterFlag::Deregister, 1, 0);
     dropped.hear(&farewell, 0).unwrap();
-    let mut unheard = fading(registered(0));
+    let mut unheard = fading(registered(1000, 0));
     unheard.watchdog = 1;
     unheard.tick().unwrap();
     for floor_box in [refused, dropped, unheard] {
@@ -246,11 +188,11 @@ fn a_retry_lets_fading_go_on_and_a_discovery_gate_waits_for_its_end() {
     assert_eq!(notices(&told), [BoxNotice::Retry]);
     assert_eq!(floor_box.state, BoxState::Registering);
     for left in [2, 1] {
-        floor_box.hear(&discovery(1000, 106), 0).unwrap();
+        floor_box.hear(&call(1000, 106), 0).unwrap();
         assert_eq!(floor_box.light, Light::Fading { left });
         assert_eq!(floor_box.tick(), Ok(BoxAnswer::default()));
     }
-    floor_box.hear(&discovery(1000, 106), 0).unwrap();
+    floor_box.hear(&call(1000, 106), 0).unwrap();
     assert_eq!(floor_box.light, Light::Warming { left: 32 });
 }
 
@@ -271,18 +213,20 @@ fn an_ack_lets_fading_go_on() {
         light: Light::Fading { left: 2 },
         ..requesting(9)
     };
-    floor_box.hear(&register(RegisterFlag::Ack), 0).unwrap();
-    let now = granted(1000, 106);
+    floor_box
+        .hear(&register(1000, RegisterFlag::Ack, 1, 0), 0)
+        .unwrap();
+    let now = grant(1000, 106);
     floor_box.hear(&gate(1000, &[now]), 0).unwrap();
     assert_eq!(floor_box.light, Light::Fading { left: 2 });
-    assert_eq!(floor_box.grants.as_slice(), [now.grant]);
+    assert_eq!(floor_box.grants.as_slice(), [now]);
 }
 
 #[test]
 fn nothing_goes_while_it_fades() {
     let with = |light| FloorBox {
         light,
-        ..registered(0)
+        ..registered(1000, 0)
     };
     assert_eq!(with(Light::Open { left: 42 }).next(60, 0), Next::Control);
     assert_eq!(with(Light::Open { left: 41 }).next(60, 0), Next::Nothing);
@@ -303,7 +247,7 @@ fn fading_is_sound_in_every_state_but_wait() {
         (waiting, true),
         (registering(), false),
         (requesting(1), false),
-        (registered(0), false),
+        (registered(1000, 0), false),
     ] {
         for (left, in_range) in [(0, false), (1, true), (32, true), (33, false)] {
             let light = Light::Fading { left };
@@ -316,7 +260,7 @@ fn fading_is_sound_in_every_state_but_wait() {
 /// Grants held before the laser-off time was counted, of 74 to 105 quanta.
 #[test]
 fn what_is_held_must_serve_with_the_laser_off_time() {
-    let grant = |length| granted(2000, length).grant;
+    let grant = |length| grant(2000, length);
     for (length, sound) in [(105, false), (106, true)] {
         let due = FloorBox {
             light: Light::Due {
@@ -325,7 +269,7 @@ fn what_is_held_must_serve_with_the_laser_off_time() {
                 sync: 0,
             },
             grants: GrantList::of(&[grant(length)]).unwrap(),
-            ..registered(0)
+            ..registered(1000, 0)
         };
         assert_eq!(due.is_sound(), sound);
     }

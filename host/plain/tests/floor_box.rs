@@ -1,69 +1,20 @@
 //! The box's steps, worked by hand from the rules (R89 to R144).
 
+mod boxes;
+
+use boxes::{
+    discovery, gate, grant, notices, register, registered, registering, to_box, BOX, HEAD,
+};
 use plain::frame::{read, write, AckFlag, RegisterFlag, RequestFlag};
 use plain::{
-    Address, Body, BoxAnswer, BoxNotice, BoxState, Count, FloorBox, Gate, Grant, GrantList,
-    Granted, Light, Message, Next, QueueSets, Refusal,
+    Address, Body, BoxAnswer, BoxNotice, BoxState, Count, FloorBox, GrantList, Granted, Light,
+    Message, Next, QueueSets, Refusal,
 };
 
-const BOX: Address = Address(0x0200_0000_0031);
-const HEAD: Address = Address(0x0A0B_0C0D_0E0F);
 /// A group's: the lowest bit of its first octet is set.
 const GROUP: Address = Address(0x0313_4657_8A9B);
 /// A REPORT of no sets.
 const EMPTY: Body = Body::Report(QueueSets::NONE);
-
-fn grant(start: u32, length: u32) -> Grant {
-    let start = Count(start);
-    Grant { start, length }
-}
-
-fn to_box(stamp: u32, body: Body) -> Message {
-    Message {
-        to: BOX,
-        from: HEAD,
-        stamp: Count(stamp),
-        body,
-    }
-}
-
-fn gate(stamp: u32, grants: &[Grant]) -> Message {
-    let forced = |&grant| Granted {
-        grant,
-        force: false,
-    };
-    let grants: Vec<Granted> = grants.iter().map(forced).collect();
-    to_box(stamp, Body::Gate(Gate::of(&grants).unwrap()))
-}
-
-fn discovery(stamp: u32, start: u32, length: u32, sync: u32) -> Message {
-    let grant = grant(start, length);
-    let granted = Granted {
-        grant,
-        force: false,
-    };
-    Message {
-        to: Address::EVERYONE,
-        ..to_box(stamp, Body::Discovery { granted, sync })
-    }
-}
-
-fn register(stamp: u32, flag: RegisterFlag, port: u16, sync: u32) -> Message {
-    let body = Body::Register {
-        port,
-        flag,
-        sync,
-        pending: 16,
-    };
-    to_box(stamp, body)
-}
-
-fn registering() -> FloorBox {
-    let (mut floor_box, fresh) = FloorBox::fresh(BOX);
-    assert_eq!(fresh, Ok(BoxAnswer::default()));
-    floor_box.register().unwrap();
-    floor_box
-}
 
 fn requesting() -> FloorBox {
     FloorBox {
@@ -73,26 +24,9 @@ fn requesting() -> FloorBox {
     }
 }
 
-/// Registered at this count with this sync, watchdog and report timer fresh.
-fn registered(count: u32, sync: u32) -> FloorBox {
-    FloorBox {
-        count: Count(count),
-        state: BoxState::Registered,
-        watchdog: 62_500_000,
-        report: 3_125_000,
-        port: 1,
-        sync,
-        ..registering()
-    }
-}
-
 fn bodies(answer: &BoxAnswer) -> Vec<Body> {
     let message = |frame| read(frame).unwrap();
     answer.frames.iter().map(|f| message(f).body).collect()
-}
-
-fn notices(answer: &BoxAnswer) -> Vec<BoxNotice> {
-    answer.notices.iter().copied().collect()
 }
 
 /// Ticks until a notice or frame, and that tick's answer.

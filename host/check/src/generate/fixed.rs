@@ -84,7 +84,10 @@ fn bodies() -> Vec<Body> {
 }
 
 fn digits(to: Address, from: Address, body: Body) -> String {
-    let stamp = NOW;
+    stamped(NOW, to, from, body)
+}
+
+fn stamped(stamp: Count, to: Address, from: Address, body: Body) -> String {
     let message = Message {
         to,
         from,

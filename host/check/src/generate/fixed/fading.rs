@@ -2,11 +2,9 @@
 //! that start around another's end, lengths around the needed one; and the
 //! cases that the rule's own page works out.
 
-use super::{bodies, box_in, box_lines, digits, BOX_STATES};
+use super::{bodies, box_in, box_lines, digits, stamped, BOX_STATES};
 use super::{Address, Body, BoxState, Count, FloorBox, Gate, Grant, GrantList};
-use super::{Granted, Light, Message, BOX, HEAD};
-use crate::generate::messages::octets;
-use crustnewt_tool::replay::hex;
+use super::{Granted, Light, BOX, HEAD};
 use plain::numbers::{needed_length, LONGEST};
 
 /// A box with timers that don't end, at rest.
@@ -31,13 +29,8 @@ fn granted(start: u32, length: u32) -> Granted {
 }
 
 fn hear(random: u32, stamp: u32, to: Address, body: Body) -> String {
-    let message = Message {
-        to,
-        from: HEAD,
-        stamp: Count(stamp),
-        body,
-    };
-    format!("box hear {random} {}", hex(&octets(&message)))
+    let digits = stamped(Count(stamp), to, HEAD, body);
+    format!("box hear {random} {digits}")
 }
 
 fn hear_gate(stamp: u32, grants: &[Granted]) -> String {
