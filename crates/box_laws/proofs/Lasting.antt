@@ -7,6 +7,7 @@ use mathlib.Core.List.{[], _∷_}
 use mathlib.Core.Logic.{⊎-elim}
 use native.Mathlib.Omega.{arith}
 use borrow.Author.Tests.{ne-eqb}
+use lib.IntN.{pos}
 use Rattle.laws.specs.Cases.{either, cut}
 use Rattle.clock.specs.Counts.{nextOf}
 use Rattle.clock.specs.Laws.{ticked-on, ticked-rings, quiet-on, passed-left, passed-none}
@@ -37,11 +38,12 @@ use Rattle.box_ticking.specs.Tick.{ring, shine, timed, transmitted, tickOf as p
 use Rattle.box_ticking.specs.declared.Stage.{Stage}
 use Rattle.box_calls.specs.Answer.{accepted}
 use Rattle.box_calls.specs.Box.{tickOf}
+use Rattle.box_calls.specs.declared.Answer.{Answer}
 use Rattle.box_calls.specs.declared.FloorBox.{FloorBox}
 use Rattle.box_laws.specs.Stated.{tick, Run, calls}
-use Rattle.box_laws.specs.Runs.{run-holds, holds-sound}
+use Rattle.box_laws.specs.Calls.{call-accepted}
+use Rattle.box_laws.specs.Runs.{run-tick-done}
 use Rattle.box_laws.specs.Served.{ticksOn, lightAt, toldAt}
-use Rattle.box_laws.specs.Steady.{tick-ok}
 
 -- ONE TICK
 -- the timer that ends a state has more than so many ticks left; in WAIT there is no light
@@ -103,13 +105,16 @@ timed-on Registered w p e h =
     (λ _. record { list = refl; light = refl; state = e; enough = omega arith; sync = refl; notice = refl }))
 
 -- then the transmitter's, and activation
+tick-done : (b : FloorBox) → Run b → tickOf b ≡ accepted b (pos 0) (processesTick (b .processes))
+tick-done b u = call-accepted tick b (run-tick-done u) .answered
+
 pub tick-is : (b : FloorBox) → Run b → tickOf b .next .processes ≡ activate (processesTick (b .processes) .next)
-unfolding tickOf accepted
-tick-is b u = rw (holds-sound (run-holds u), tick-ok (b .processes) (run-holds u .processes))
+unfolding accepted
+tick-is b u = ap (λ (x : Answer). x .next .processes) (tick-done b u)
 
 tick-tells : (b : FloorBox) → Run b → tickOf b .notices ≡ processesTick (b .processes) .notices
-unfolding tickOf accepted
-tick-tells b u = rw (holds-sound (run-holds u), tick-ok (b .processes) (run-holds u .processes))
+unfolding accepted
+tick-tells b u = ap (λ (x : Answer). x .notices) (tick-done b u)
 
 -- one that is not at rest is left alone
 stays : (p : Processes) → atRest (p .light) ≡ false → activate p ≡ p

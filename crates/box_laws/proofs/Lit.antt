@@ -91,7 +91,7 @@ pub record Burns (s v : State) (n m w : ℕ) (f g : Phase) (x y : Notice) (t u :
   pub told : (q : Processes)
       → (shine (after f .beam) (withLight q (after f .light)) .notice ≡ x) × (shine (after g .beam) (withLight q (after g .light)) .notice ≡ y)
 
-module _ (s v : State) (n m w : ℕ) (f g : Phase) (x y : Notice) (t u : Timer) (b : FloorBox) (z : Burns s v n m w f g x y t u b) where
+module _ {s v : State} {n m w : ℕ} {f g : Phase} {x y : Notice} {t u : Timer} {b : FloorBox} (z : Burns s v n m w f g x y t u b) where
   abbrev b₁ : FloorBox
   b₁ = ticksOn (suc n) b
 

@@ -161,12 +161,12 @@ module _ (d : ℕ) (e : Span) (sync : Quanta) (b : FloorBox) (u : Waits (suc d) 
   lights : Lights (suc d) whole (sync .0) b
   lights =
       lights-behind (suc d) whole (sync .0) b dark (omega (arith, f .long))
-      (lights-of Registered Registered n m (suc m + laserOff) (Lit (e .length) sync) Open Notice.Open Notice.Close (laserOnFor sync) (openFor (e .length) sync) b₁ burns whole (sync .0) parts (omega arith))
+      (lights-of burns whole (sync .0) parts (omega arith))
 
   tells : Tells Notice.Open Notice.Close (suc d) whole (sync .0) b
   tells =
       tells-behind (suc d) whole (sync .0) b dark (omega (arith, f .long)) Notice.Open Notice.Close
-      (tells-of Registered Registered n m (suc m + laserOff) (Lit (e .length) sync) Open Notice.Open Notice.Close (laserOnFor sync) (openFor (e .length) sync) b₁ burns whole (sync .0) parts (omega arith))
+      (tells-of burns whole (sync .0) parts (omega arith))
       (omega (arith, f .long))
 
   -- at the end
@@ -174,7 +174,7 @@ module _ (d : ℕ) (e : Span) (sync : Quanta) (b : FloorBox) (u : Waits (suc d) 
   ended =
       let z : suc d + whole - suc d ≡ suc n + suc m + laserOff = omega (arith, parts) in
       rw (from (suc d) (suc d + whole) b (omega arith), z)
-      (end Registered Registered n m (suc m + laserOff) (Lit (e .length) sync) Open Notice.Open Notice.Close (laserOnFor sync) (openFor (e .length) sync) b₁ burns)
+      (end burns)
 
   end-list : ended .rests .list ≡ left
   end-list = ended .list ∙ lit .list

@@ -19,7 +19,7 @@ use Rattle.frame.specs.declared.Message.{Message}
 use Rattle.frame_range.specs.Fits.{fitsGrant, fitsBody}
 use Rattle.frame_range.specs.Laws.{message-parts}
 use Rattle.box_light.specs.Laws.{on-for}
-use Rattle.box_light.specs.Light.{lightIn, resting, fading, laserOnFor, randomly, rests, atRest, sends}
+use Rattle.box_light.specs.Light.{lightIn, resting, fading, laserOnFor, randomly, atRest}
 use Rattle.box_light.specs.declared.Light.{Light}
 use Rattle.box_light.specs.declared.Phase.{Phase}
 use Rattle.box_light.specs.declared.Phase.the-variants.{Before, Random, Warming, Asking}
@@ -155,17 +155,17 @@ module _ (d : ℕ) (sync : Quanta) (b : FloorBox) (z : Warms d sync b) (short : 
   lights : Lights d (needed (sync .0)) (sync .0) b
   lights =
       lights-behind d (needed (sync .0)) (sync .0) b (z .dark) (omega arith)
-      (lights-of Registering RegisterReq n 41 0 Warming Asking Notice.Window Notice.Nothing (laserOnFor sync) asking c burns (needed (sync .0)) (sync .0) (omega arith) (omega arith))
+      (lights-of burns (needed (sync .0)) (sync .0) (omega arith) (omega arith))
 
   tells : Tells Notice.Window Notice.Nothing d (needed (sync .0)) (sync .0) b
   tells =
       tells-behind d (needed (sync .0)) (sync .0) b (z .dark) (omega arith) Notice.Window Notice.Nothing
-      (tells-of Registering RegisterReq n 41 0 Warming Asking Notice.Window Notice.Nothing (laserOnFor sync) asking c burns (needed (sync .0)) (sync .0) (omega arith) (omega arith))
+      (tells-of burns (needed (sync .0)) (sync .0) (omega arith) (omega arith))
       (omega arith)
 
   ends : lightAt (d + needed (sync .0)) b ≡ resting
   ends =
-      let e = end Registering RegisterReq n 41 0 Warming Asking Notice.Window Notice.Nothing (laserOnFor sync) asking c burns in
+      let e = end burns in
       let k : d + needed (sync .0) - d ≡ suc n + suc 41 + laserOff = omega arith in
       light-from d (d + needed (sync .0)) b (omega arith)
       ∙ rw k (ap (λ (p : Processes). p .light) (e .is) ∙ idle (e .rests) (e .light) (e .state))
