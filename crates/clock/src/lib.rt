@@ -1,4 +1,6 @@
 // The clock: counts, lengths and timers (R6 to R29).
+#![tactic(auto)]
+
 ghost use Rattle.std.specs.Prelude.{◌≡◌, ◌-◌, min};
 ghost use Rattle.clock.specs.Counts.{next_of, later_of, distance, is_past, nearer, reach, drift_of, round_trip};
 ghost use Rattle.clock.specs.Numbers.{start_in_range, is_in_reach, fits, needed};
@@ -37,22 +39,22 @@ pub fn passing(quiet: u32, n: u64) -> u32
 }
 
 // A reading of the 32-bit counter.
-#[derive(Drop)]
+#[derive(Clone, Copy)]
 pub struct Count(pub u32);
 
 // A length: a number of quanta.
-#[derive(Drop)]
+#[derive(Clone, Copy)]
 pub struct Quanta(pub u32);
 
 // What is kept of a grant.
-#[derive(Drop)]
+#[derive(Clone, Copy)]
 pub struct Span {
     pub start: Count,
     pub length: Quanta,
 }
 
 // A count seen from now: its distance is a length unless it is past.
-#[derive(Drop)]
+#[derive(Clone, Copy)]
 pub enum Reach {
     Past,
     Ahead(Quanta),
@@ -215,13 +217,13 @@ impl Span {
 }
 
 // A timer: the ticks that are left, 0 when it is stopped.
-#[derive(Drop)]
+#[derive(Clone, Copy)]
 pub struct Timer {
     pub left: u32,
 }
 
 // A timer after a tick, and whether it rang at it.
-#[derive(Drop)]
+#[derive(Clone, Copy)]
 pub struct Ticked {
     pub timer: Timer,
     pub rang: bool,

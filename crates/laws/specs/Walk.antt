@@ -1,7 +1,7 @@
 -- Lemmas: a loop over the first n elements of an array is a fold of their list: what is left to do from here gives what the whole gives.
 -- Assumes nothing.
 use Rattle.std.specs.Prelude.{ℕ, ◌+◌, ◌≤◌, ◌<◌, ◌≡◌, take, drop, length, get_or}
-use Rattle.std.proofs.Common.{sym, ◌∙◌, ap, add-one, arith, length-take, drop_of_length-le, drop-cons, get_or-take}
+use Rattle.std.proofs.Common.{sym, ◌∙◌, add-one, arith, length-take, drop_of_length-le, drop-cons, get_or-take}
 use mathlib.Core.List.{List, foldl}
 
 module _ {A S : Type 0} (f : S → A → S) (l : List A) (n : ℕ) where

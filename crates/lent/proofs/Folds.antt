@@ -2,7 +2,7 @@
 --     up_to f k xs i      xs with f of each of its first i elements in that element's place
 --     fold_to g k xs i s  the state s after g of each of the first i elements in turn
 -- Assumes nothing.
-use mathlib.Core.Path.{◌≡◌, refl, sym, ap, ◌∙◌, subst}
+use mathlib.Core.Path.{◌≡◌, refl, sym, ap, ◌∙◌}
 use mathlib.Core.Bool.{Bool, true, false}
 use mathlib.Core.Logic.{◌⊎◌, inl, inr}
 use mathlib.Core.WellFounded.InvImage

@@ -4,7 +4,7 @@
 --     lends_first, first_back      the same of the first k of its elements: the others stay beside the loan.
 --     lends-array      a local array of T is lent whole, as a slice, for a new lifetime ν, under δ.        array_back       it is a local again, at the last list. T's relation makes and tells what is owned, as every plain type's does
 -- Assumes `Logic`.
-use mathlib.Core.Path.{◌≡◌, refl, sym, ap, ◌∙◌, subst}
+use mathlib.Core.Path.{◌≡◌, refl, sym, ◌∙◌, subst}
 use denote.Laws.{Is, Makes, Tells, shows}
 use denote.Memory.{lone, cell_at, part_at, mem, shares, part_of}
 use denote.Array.{Array, array_val, array_vals, Array-Tells, Array-Makes}
@@ -15,13 +15,12 @@ use denote.Steps.{owned, peeks}
 use denote.Struct.Steps.{spelt}
 use types.SemTy.{cells, Arr}
 use types.Share.{arr_parts}
-use Prim.Native.Nat.{ℕ, ◌≤◌}
-use native.Mathlib.Omega.{arith}
+use Prim.Native.Nat.{ℕ}
 use borrow.Table.Elements.{at as place_of, cut_app, join_app, same_len}
 use mathlib.Core.List.{List, [], ◌∷◌, ◌++◌, map}
-use lib.ListN.{length, take, drop as dropped, length-take, length-append, take-append-drop}
+use lib.ListN.{length, take, drop as dropped, take-append-drop}
 use seplogic.Ra.Ura.{Ura}
-use seplogic.Ra.TreeShare.{full_share}
+use base.Fraction.{full_share}
 use mir.Syntax.{Lifetime, ty_array}
 use mir.Val.{Val}
 use base.Fml.{Fml, Lft, GName, Share, fsep, fat, flft, flent}

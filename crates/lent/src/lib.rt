@@ -1,1 +1,3 @@
+#![tactic(auto)]
+
 // What walks over lent slices share: see specs/ and proofs/. There is no code.

@@ -1,0 +1,13 @@
+-- `clock::Timer::tick` meets its promise: its test picks the definition's arm.
+-- Assumes nothing.
+use Rattle.std.proofs.Common.{eq-eqb, ne_eqb}
+use Rattle.clock.specs.Timers.{ticked}
+use Rattle.clock.proofs.Timer.tick.Goals as goal
+
+pub returns-then-left-eq0 : goal.returns-then-left-eq0
+unfolding ticked
+returns-then-left-eq0 c = rw (eq-eqb _ _ c.if-left-eq0.true)
+
+pub returns : goal.returns
+unfolding ticked
+returns c = rw (ne_eqb _ _ c.if-left-eq0.false)
