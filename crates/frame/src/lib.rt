@@ -1,4 +1,6 @@
 // The messages that the five control frames carry, and the numbers that a call is answered with.
+#![tactic(auto)]
+
 ghost use Rattle.std.specs.Prelude.{◌≡◌};
 ghost use Rattle.frame.specs.Card.{number_of};
 ghost use Rattle.frame.specs.Ways.{goes_to_head};
@@ -8,7 +10,7 @@ use clock::{Count, Quanta};
 use frame_queues::Sets;
 
 // 48 bits, as a number.
-#[derive(Drop)]
+#[derive(Clone, Copy)]
 pub struct Address(pub u64);
 
 impl Address {
@@ -19,7 +21,7 @@ impl Address {
 }
 
 // Leave to send, and whether a REPORT must be sent in it.
-#[derive(Drop)]
+#[derive(Clone, Copy)]
 pub struct Grant {
     pub start: Count,
     pub length: Quanta,
@@ -27,7 +29,7 @@ pub struct Grant {
 }
 
 // A normal GATE's grants, by cases, so that there is no number of them to be wrong.
-#[derive(Drop)]
+#[derive(Clone, Copy)]
 pub enum Grants {
     None,
     One(Grant),
@@ -36,7 +38,7 @@ pub enum Grants {
     Four(Grant, Grant, Grant, Grant),
 }
 
-#[derive(Drop)]
+#[derive(Clone, Copy)]
 pub enum RegisterReqFlag {
     Register,
     Deregister,
@@ -53,7 +55,7 @@ impl RegisterReqFlag {
     }
 }
 
-#[derive(Drop)]
+#[derive(Clone, Copy)]
 pub enum RegisterFlag {
     Reregister,
     Deregister,
@@ -74,7 +76,7 @@ impl RegisterFlag {
     }
 }
 
-#[derive(Drop)]
+#[derive(Clone, Copy)]
 pub enum RegisterAckFlag {
     Nack,
     Ack,
@@ -92,7 +94,7 @@ impl RegisterAckFlag {
 }
 
 // What a frame says. A GATE is normal or calls for newcomers, and then has one grant.
-#[derive(Drop)]
+#[derive(Clone, Copy)]
 pub enum Body {
     Gate(Grants),
     Discovery {
@@ -156,7 +158,7 @@ impl Body {
     }
 }
 
-#[derive(Drop)]
+#[derive(Clone, Copy)]
 pub struct Message {
     pub destination: Address,
     pub source: Address,
@@ -173,7 +175,7 @@ impl Message {
 }
 
 // The service card: what every call of the product is answered with.
-#[derive(Drop)]
+#[derive(Clone, Copy)]
 pub enum Reply {
     Done,
     Size,
@@ -218,14 +220,14 @@ impl Reply {
 }
 
 // The reader's answer. On a refusal the message is the blank one.
-#[derive(Drop)]
+#[derive(Clone, Copy)]
 pub struct Reading {
     pub reply: Reply,
     pub message: Message,
 }
 
 // The writer's answer. On a refusal the octets are all zero.
-#[derive(Drop)]
+#[derive(Clone, Copy)]
 pub struct Writing {
     pub reply: Reply,
     pub octets: [u8; 60],

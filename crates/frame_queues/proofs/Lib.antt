@@ -1,3 +1,4 @@
+pub mod Fitting
 pub mod Listed
 pub mod Settled
 pub mod Vectors

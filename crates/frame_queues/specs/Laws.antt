@@ -1,14 +1,14 @@
 -- Lemmas: the laws of a REPORT's body: what decides where its sets end, what zeroing its pad leaves, its forty octets as numbers and back.
 -- Assumes nothing.
-use Rattle.std.specs.Prelude.{ℕ, zero, suc, ◌+◌, ◌-◌, ◌≤◌, ◌<◌, ◌≡◌, refl, true, List, [], ◌∷◌, ◌++◌, eqb, leb, length, take, drop, get_or, replicate}
-use Rattle.std.proofs.Common.{sym, ap, subst, ◌∙◌, append-nil, not-suc-le-zero, le_refl, arith, eqb-true, eq-eqb, leb-true, le-leb, length-take, length-drop, take-append-drop, get_or-take, take_all, take_at, drop_at}
+use Rattle.std.specs.Prelude.{ℕ, zero, suc, ◌-◌, ◌≤◌, ◌<◌, ◌≡◌, refl, true, List, [], ◌∷◌, ◌++◌, eqb, length, take, drop, get_or, replicate}
+use Rattle.std.proofs.Common.{sym, ap, subst, ◌∙◌, append-nil, not-suc-le-zero, le_refl, arith, eqb-true, eq-eqb, length-take, length-drop, take-append-drop, get_or-take, take_all, take_at, drop_at}
 use Rattle.std.proofs.Math.Bool.{and-eq-true_iff}
 use Rattle.std.proofs.Math.Nat.{sub-zero, zero-sub, suc-sub-suc}
 use Rattle.std.proofs.lemmas.List.{length-replicate}
 use Rattle.octets.specs.Octets.{onto, bytes, Octets}
 use Rattle.octets.specs.Laws.{value-bytes, bytes-field, field_below, join, octets-take, octets-append, octets-zeros, octets-bytes}
 use Rattle.frame_queues.specs.Asked.{padded}
-use Rattle.frame_queues.specs.Queues.{past_of, ending, used_of, cleared, cut_of, forty_of, sets_of, no_sets, SetsTyped, SetsFit, same_sets, ends_at, fits_sets}
+use Rattle.frame_queues.specs.Queues.{past_of, ending, used_of, cleared, cut_of, forty_of, sets_of, no_sets, SetsTyped, SetsFit, same_sets}
 use Rattle.frame_queues.specs.declared.Sets.{Sets}
 
 -- a turn of the walk over the sets
@@ -238,7 +238,7 @@ same-sets s t e =
     let v : s.fifth ≡ t.fifth = eqb-true _ _ d.1 in
     rebuilt p q r u v
 
-sets_same : (s : Sets) → same_sets s s ≡ true
+pub sets_same : (s : Sets) → same_sets s s ≡ true
 sets_same s =
     rw (
       eq-eqb s.first s.first refl,
@@ -248,34 +248,8 @@ sets_same s =
       eq-eqb s.fifth s.fifth refl,
     )
 
--- what is tested of sets
-fits-parts : (s : Sets) → fits_sets s ≡ true → (used_of (forty_of s) ≤ 40) × (cut_of (forty_of s) ≡ forty_of s)
-unfolding fits_sets ends_at
-fits-parts s e =
-    let o = forty_of s in
-    let size : length (cut_of o) ≡ 40 = cleared-length (used_of o) o ∙ forty-length s in
-    let both = (and-eq-true_iff (leb (used_of o) 40) _).0 e in (
-      leb-true (used_of o) 40 both.0,
-      sym (forty-sets (cut_of o) (cleared-octets (used_of o) o (forty-octets s)) size) ∙ ap forty_of (same-sets _ s both.1),
-    )
-
-pub fits_cut : (s : Sets) → fits_sets s ≡ true → cut_of (forty_of s) ≡ forty_of s
-fits_cut s e = (fits-parts s e).1
-
--- the test is the range
-pub sets-fit : (s : Sets) → SetsTyped s → fits_sets s ≡ true → SetsFit s
-sets-fit s h e =
-    let p = fits-parts s e in
-    record { typed = h; room = p.0; zeros = same-zeros (forty_of s) (forty-length s) p.0 p.1 }
-
 pub fit_cut : (s : Sets) → SetsFit s → cut_of (forty_of s) ≡ forty_of s
 fit_cut s f = cut-same (forty_of s) (forty-length s) f.room f.zeros
-
-pub fit-sets : (s : Sets) → SetsFit s → fits_sets s ≡ true
-unfolding fits_sets ends_at
-fit-sets s f =
-    let is : sets_of (cut_of (forty_of s)) ≡ s = ap sets_of (fit_cut s f) ∙ sets-forty s f.typed in
-    (and-eq-true_iff _ _).1 (le-leb (used_of (forty_of s)) 40 f.room, ap (λ (t : Sets). same_sets t s) is ∙ sets_same s)
 
 -- the number of sets is used in any case
 pub used-some : (o : List ℕ) → 1 ≤ used_of o

@@ -1,6 +1,6 @@
 -- Rules R32, R41, R239 to R241: the body of a REPORT, where its queue sets end, and which are in range.
 -- Assumes nothing.
-use Rattle.std.specs.Prelude.{ℕ, zero, suc, ◌+◌, ◌-◌, ◌*◌, ◌^◌, ◌≤◌, ◌<◌, ◌≡◌, Bool, ◌&&◌, List, [], ◌∷◌, ◌++◌, eqb, leb, length, take, drop, get_or, replicate}
+use Rattle.std.specs.Prelude.{ℕ, zero, suc, ◌+◌, ◌-◌, ◌*◌, ◌^◌, ◌≤◌, ◌<◌, ◌≡◌, Bool, ◌&&◌, List, [], ◌∷◌, ◌++◌, eqb, leb, length, drop, get_or, replicate}
 use Rattle.std.specs.Int.Count.{ones}
 use Rattle.octets.specs.Octets.{bytes, field_of}
 use Rattle.frame_queues.specs.declared.Sets.{Sets}

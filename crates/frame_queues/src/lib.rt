@@ -1,4 +1,6 @@
 // The queue sets of a REPORT: the forty octets of its body, held as five numbers.
+#![tactic(auto)]
+
 ghost use Rattle.std.specs.Prelude.{◌≡◌, ◌+◌, ◌-◌, ◌≤◌, ◌<◌, ◌∷◌, length, get_or};
 ghost use Rattle.octets.specs.Octets.{bytes, value, field_of};
 ghost use Rattle.octets.specs.Over.{over};
@@ -6,7 +8,7 @@ ghost use Rattle.frame_queues.specs.Queues.{past_of, used_of, cleared, forty_of,
 ghost use Rattle.frame_queues.specs.Asked.{padded, asked_of};
 
 // Eight octets to each number, most significant first: how many sets, the sets, and zeros.
-#[derive(Drop)]
+#[derive(Clone, Copy)]
 pub struct Sets {
     pub first: u64,
     pub second: u64,
@@ -106,7 +108,8 @@ fn begun(number: u8, octets: &[u8]) -> [u8; 40]
 {
     let mut o = [0u8; 40];
     o[0] = number;
-    bytes::copy(octets, &mut o[1..]);
+    let end = 1 + octets.len();
+    o[1..end].copy_from_slice(octets);
     o
 }
 

@@ -4,7 +4,7 @@ use Rattle.std.specs.Prelude.{ℕ, ◌/◌, ◌%◌, ◌^◌, ◌<◌, ◌≡◌
 use Rattle.std.proofs.Math.Bool.{and-eq-true_iff}
 use Rattle.std.proofs.Common.{arith, eqb-true, leb-true, ltb-true, le-leb}
 use Rattle.clock.specs.Numbers.{most, fits}
-use Rattle.frame_queues.specs.Laws.{sets-fit, fit-sets}
+use Rattle.frame_queues.proofs.Fitting.{sets-fit, fit-sets}
 use Rattle.frame.specs.Layout.{listed}
 use Rattle.frame.specs.Range.{individual_in, GrantsFit, BodyFits, Valid, GrantsTyped, BodyTyped, Typed}
 use Rattle.frame.specs.declared.Address.{Address}

@@ -1,4 +1,6 @@
 // Whether what a frame is to carry is in range: every number has its octets.
+#![tactic(auto)]
+
 ghost use Rattle.std.specs.Prelude.{◌≡◌, true};
 ghost use Rattle.frame.specs.Layout.{listed};
 ghost use Rattle.frame_range.specs.Fits.{fits_address, is_individual, fits_grant, fits_all, fits_body, fits_message};

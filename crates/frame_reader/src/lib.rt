@@ -1,4 +1,6 @@
 // The reader of control frames: it answers every slice.
+#![tactic(auto)]
+
 ghost use Rattle.std.specs.Prelude.{◌≡◌, ◌+◌, ◌≤◌, ◌<◌, ◌^◌, [], ◌∷◌, length, take};
 ghost use Rattle.frame.specs.Reading.{gate_in_range, body_in_range, source_in_range, refusal};
 ghost use Rattle.octets.specs.Octets.{field_of};

@@ -1,4 +1,6 @@
 // The writer of control frames: it answers every message.
+#![tactic(auto)]
+
 ghost use Rattle.std.specs.Prelude.{◌≡◌, [], ◌∷◌, ◌++◌, true, false, cond, ◌+◌, ◌≤◌, ◌<◌, length, take};
 ghost use Rattle.octets.specs.Octets.{bytes};
 ghost use Rattle.octets.specs.Over.{over};
@@ -14,7 +16,7 @@ use frame::{
 use frame_queues::Sets;
 
 // What a frame has before its body, but for type and opcode.
-#[derive(Drop)]
+#[derive(Clone, Copy)]
 pub struct Header {
     pub destination: Address,
     pub source: Address,
@@ -134,7 +136,7 @@ fn lay_body(out: [u8; 60], body: [u8; 40]) -> [u8; 60]
     ensures { result ≡ take 20 out ++ body }
 {
     let mut o = out;
-    bytes::copy(&body, &mut o[20..]);
+    o[20..].copy_from_slice(&body);
     o
 }
 

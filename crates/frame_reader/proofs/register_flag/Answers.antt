@@ -1,0 +1,31 @@
+-- `frame_reader::register_flag` meets its promise.
+-- Assumes nothing.
+use borrow.Author.Tests.{eq-eqb, ne_eqb}
+use Rattle.frame_reader.specs.Flags.{register_flag_of}
+use Rattle.frame_reader.proofs.register_flag.Goals as goal
+
+pub returns-then-f-eq1 : goal.returns-then-f-eq1
+unfolding register_flag_of
+returns-then-f-eq1 c = rw (eq-eqb _ _ c.if-f-eq1.true)
+
+pub returns-then-f-eq2 : goal.returns-then-f-eq2
+unfolding register_flag_of
+returns-then-f-eq2 c = rw (ne_eqb _ _ c.if-f-eq1.false, eq-eqb _ _ c.if-f-eq2.true)
+
+pub returns-then-f-eq3 : goal.returns-then-f-eq3
+unfolding register_flag_of
+returns-then-f-eq3 c =
+    rw (
+      ne_eqb _ _ c.if-f-eq1.false,
+      ne_eqb _ _ c.if-f-eq2.false,
+      eq-eqb _ _ c.if-f-eq3.true,
+    )
+
+pub returns : goal.returns
+unfolding register_flag_of
+returns c =
+    rw (
+      ne_eqb _ _ c.if-f-eq1.false,
+      ne_eqb _ _ c.if-f-eq2.false,
+      ne_eqb _ _ c.if-f-eq3.false,
+    )
