@@ -1,4 +1,6 @@
 // Activation (R125 to R132): the grant to wait for next, and the laser that goes on for it.
+#![tactic(auto)]
+
 ghost use Rattle.std.specs.Prelude.{◌≡◌};
 ghost use Rattle.box_activation.specs.Activation.{light_up, begin, head_for, serve, activate};
 

@@ -14,12 +14,13 @@ use Rattle.box_grants.specs.Keeps.{packed-sound}
 use Rattle.box_grants.specs.Listed.{packed, choose_of}
 use Rattle.box_grants.specs.Sound.{sound_of as list_sound}
 use Rattle.box_grants.specs.declared.GrantList.{GrantList}
-use Rattle.box_light.specs.Laws.{rest-sound, tick-quiet as light-quiet, passed-sound as light-sound, passed-rest, passed-joins as light-joins, quiet-less as light-less}
+use Rattle.box_light.proofs.Laws.{rest-sound, tick-quiet as light-quiet, passed-sound as light-sound, passed-rest, passed-joins as light-joins, quiet-less as light-less}
 use Rattle.box_light.specs.Light.{is_at_rest}
 use Rattle.box_light.specs.Pass.{passed_of as light_passed, quiet_of as light_quiet}
 use Rattle.box_light.specs.Sound.{sound_of as light_sound}
 use Rattle.box_light.specs.declared.Light.{Light}
-use Rattle.box_registration.specs.Laws.{tick-quiet as registration-quiet, passed-sound as registration-sound, passed-state, passed-joins as registration-joins, quiet-less as registration-less}
+use Rattle.box_registration.proofs.Kept.{passed-sound as registration-sound}
+use Rattle.box_registration.specs.Laws.{tick-quiet as registration-quiet, passed-state, passed-joins as registration-joins, quiet-less as registration-less}
 use Rattle.box_registration.specs.Pass.{passed_of as registration_passed, quiet_of as registration_quiet}
 use Rattle.box_registration.specs.Registration.{is_registered}
 use Rattle.box_registration.specs.Sound.{sound_of as registration_sound}

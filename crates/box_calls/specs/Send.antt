@@ -20,4 +20,4 @@ send_of b control frame =
     let d = length frame.now in
     cond (ltb 0 c && fits_in ticks c) control
     (cond (eqb c 0 && ltb 0 d && is_registered p.registration.state && fits_in ticks d) frame
-    (record { ref_ptr = control.ptr; ghost_name = control.name; now = [] }))
+    (record { ref_ptr = control.ref_ptr; now = [] }))

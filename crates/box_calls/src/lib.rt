@@ -1,4 +1,6 @@
 // The floor box: its processes with an own address, and its calls. Each answers every input (R72).
+#![tactic(auto)]
+
 ghost use Rattle.std.specs.Prelude.{◌≡◌};
 ghost use Rattle.frame.specs.declared.Reply.TheVariants.{Done};
 ghost use Rattle.box_calls.specs.Answer.{bare, refused, message_of, framed, accepted};
@@ -18,14 +20,14 @@ use clock::Count;
 use frame::{Address, Body, Message, Reply};
 use frame_queues::Sets;
 
-#[derive(Drop)]
+#[derive(Clone, Copy)]
 pub struct FloorBox {
     pub address: Address,
     pub processes: Processes,
 }
 
 // What a call is answered with: the number on the card, the drift, the box after the call, the frames that it hands out, the notices.
-#[derive(Drop)]
+#[derive(Clone, Copy)]
 pub struct Answer {
     pub reply: Reply,
     pub drift: i64,
@@ -35,7 +37,7 @@ pub struct Answer {
 }
 
 // An advance: the answer of the last tick made, or a refusal, and how many ticks were made.
-#[derive(Drop)]
+#[derive(Clone, Copy)]
 pub struct Advanced {
     pub answer: Answer,
     pub made: u64,
@@ -363,7 +365,7 @@ impl FloorBox {
 
     // The waiting frame that goes next, or the empty part of the control frame's buffer.
     pub fn next_to_send<'a>(self, control: &'a [u8], data: &'a [u8]) -> &'a [u8]
-        ensures { (result.ref_ptr ≡ (send_of self control.entry «data».entry).ptr) × (result.now ≡ (send_of self control.entry «data».entry).now) }
+        ensures { (result.ref_ptr ≡ (send_of self control.entry «data».entry).ref_ptr) × (result.now ≡ (send_of self control.entry «data».entry).now) }
     {
         let processes = self.processes;
         let registration = processes.registration;

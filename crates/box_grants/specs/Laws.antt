@@ -1,26 +1,30 @@
 -- Lemmas: what the code's steps on the array make of the list in it.
 -- Assumes nothing.
 use Prim.Native.Nat.{ℕ, suc, ◌+◌, ◌-◌, ◌≤◌, ◌<◌, min}
-use Rattle.std.specs.Prelude.{◌≡◌, Bool, true, false, cond, ◌&&◌, ◌||◌, leb, replicate, get_or}
+use Rattle.std.specs.Prelude.{◌≡◌, Bool, true, false, cond, ◌&&◌, ◌||◌, ltb, leb, set, replicate, get_or}
 use Rattle.std.proofs.Math.Path.{refl}
-use Rattle.std.proofs.Common.{sym, ap, ◌∙◌, length-append}
+use Rattle.std.proofs.Common.{sym, ap, ◌∙◌, ⊎_elim, length-append}
 use Rattle.std.proofs.Math.Bool.{or-true, or_assoc, or-false, and_assoc, and-true}
 use Rattle.std.proofs.lemmas.Bool.{false≢true}
 use mathlib.Core.List.{List, [], ◌∷◌, ◌++◌, foldl, append_assoc, append-nil}
 use native.Mathlib.Omega.{arith}
-use borrow.Author.Tests.{lt-ltb, le-leb, lt-leb, eq-eqb}
+use borrow.Author.Tests.{lt-ltb, le-ltb, le-leb, lt-leb, eq-eqb}
 use Rattle.std.proofs.Math.ListN.{length}
 use Rattle.std.proofs.Math.Seq.{take-append_seam, set-append_seam}
-use Rattle.laws.specs.Cases.{either}
+use Rattle.laws.specs.Cases.{either, cut}
 use Rattle.clock.specs.Counts.{is_past, nearer}
 use Rattle.clock.specs.Spans.{none, same, nearer_of}
+use Rattle.clock.specs.declared.Count.{Count}
 use Rattle.clock.specs.declared.Span.{Span}
 use Rattle.box_grants.specs.Activation.{holds, ahead, nearest, remove, settle}
 use Rattle.box_grants.specs.Listed.{list_of, packed, pushed, choice_of}
 use Rattle.box_grants.specs.Sifting.{kept, sifted}
+use Rattle.box_grants.specs.Walk.{leaves, sift, Walked, walked}
 use Rattle.box_grants.specs.Sound.{in_range}
 use Rattle.box_grants.specs.declared.GrantList.{GrantList}
 use Rattle.box_grants.specs.declared.Chosen.TheVariants.{Nothing, Due}
+use Rattle.box_grants.specs.declared.Leaving.{Leaving}
+use Rattle.box_grants.specs.declared.Leaving.TheVariants.{Past, Equal}
 
 -- the list in a packed array is the list
 pub packed-list : (l : List Span) → length l ≤ 16 → list_of (packed l) ≡ l
@@ -73,6 +77,52 @@ sift-walk out k (e ∷ l) h =
           (ap (λ (s : GrantList). (foldl (sifted out) (record { list = s; met = false }) l).list) push
           ∙ more.1 ∙ ap packed (append_assoc k (e ∷ []) (remove out l)))),
     )
+
+pub walked-list : (w : Leaving) (k l : List Span) (gone : Bool) → length k + length l ≤ 16
+    → (foldl (walked w) (record { list = packed k; gone = gone }) l).list ≡ packed (k ++ sift w gone l)
+unfolding walked
+walked-list w k [] gone h = ap packed (sym (append-nil k))
+walked-list w k (e ∷ l) gone h =
+    either (λ (r : List Span). (foldl (walked w) (walked w (record { list = packed k; gone = gone }) e) l).list ≡ packed (k ++ r)) (leaves w gone e) _ _
+    (λ t. rw t (walked-list w k l true (omega arith)))
+    (λ t.
+    let long : length (k ++ (e ∷ [])) ≡ length k + 1 = length-append k (e ∷ []) in
+    rw (t, push-packed k e (omega arith))
+    (walked-list w (k ++ (e ∷ [])) l gone (omega arith) ∙ ap packed (append_assoc k (e ∷ []) (sift w gone l))))
+
+-- a turn of it: an entry that stays is stored at the number
+one_more : (a b : ℕ) → ltb (a + 1) (b + 1) ≡ ltb a b
+one_more a b =
+    ⊎_elim
+    (λ (h : a < b). rw (lt-ltb a b h, lt-ltb (a + 1) (b + 1) (omega arith)))
+    (λ (h : b ≤ a). rw (le-ltb a b h, le-ltb (a + 1) (b + 1) (omega arith)))
+    (cut a b)
+
+module _ (w : Leaving) (l : List Span) (k i : ℕ) (e : Span) where
+  abbrev read : Walked
+  read = record { list = record { entries = l; number = k }; gone = ltb k i }
+
+  pub sift-stays : k < 16 → leaves w (ltb k i) e ≡ false
+      → record { list = record { entries = set l k e; number = k + 1 }; gone = ltb (k + 1) (i + 1) } ≡ walked w read e
+  unfolding walked pushed
+  sift-stays r t = rw (one_more k i, t, lt-ltb k 16 r)
+
+  pub sift-leaves : k ≤ i → leaves w (ltb k i) e ≡ true → record { list = record { entries = l; number = k }; gone = ltb k (i + 1) } ≡ walked w read e
+  unfolding walked
+  sift-leaves h t = rw (t, lt-ltb k (i + 1) (omega arith))
+
+-- what stays is what the rules leave in the list
+pub sift-past : (now : Count) (gone : Bool) (l : List Span) → sift (Past now) gone l ≡ ahead now.0 l
+sift-past now gone [] = refl
+sift-past now gone (e ∷ l) = rw (sift-past now true l, sift-past now gone l)
+
+sift-all : (x : Span) (l : List Span) → sift (Equal x) true l ≡ l
+sift-all x [] = refl
+sift-all x (e ∷ l) = rw (sift-all x l)
+
+pub sift-equal : (x : Span) (l : List Span) → sift (Equal x) false l ≡ remove x l
+sift-equal x [] = refl
+sift-equal x (e ∷ l) = rw (sift-all x l, sift-equal x l)
 
 pub nearest-walk : (now : ℕ) (e : Span) (l : List Span) → foldl (nearer_of now) e l ≡ nearest now e l
 nearest-walk now e [] = refl
@@ -144,15 +194,19 @@ module _ (now : ℕ) where
     choice-found [] e h n k = absurd (omega arith)
     choice-found (x ∷ l) e h n k = rw (← first-again x l, ← n, le-leb need e.length.0 k)
 
+    turned : (k : ℕ) (x e n : Span) (l : List Span) → e ≡ n → e.length.0 < need
+        → cond (leb need n.length.0) (record { list = x ∷ l; chosen = Due n }) (settle k now need (remove n (x ∷ l))) ≡ settle k now need (remove e (x ∷ l))
+    turned k x e n l h j = rw (lt-leb need n.length.0 (rw h at j)) (ap (λ (y : Span). settle k now need (remove y (x ∷ l))) (sym h))
+
     pub choice-next : (l : List Span) (e : Span) → 0 < length l → Nearest l e → e.length.0 < need
         → (suc (length (remove e l)) ≡ length l) × (settle (length (remove e l)) now need (remove e l) ≡ settle (length l) now need l)
     unfolding settle
     choice-next [] e h n k = absurd (omega arith)
     choice-next (x ∷ l) e h n k =
         let is : e ≡ nearest now x l = n ∙ first-again x l in
-        let fewer : suc (length (remove e (x ∷ l))) ≡ suc (length l) = remove-fewer e (x ∷ l) (rw is (nearest_in now x l)) in
+        let fewer : suc (length (remove e (x ∷ l))) ≡ suc (length l) = remove-fewer e (x ∷ l) (ap (λ (y : Span). holds y (x ∷ l)) is ∙ nearest_in now x l) in
         let less : length (remove e (x ∷ l)) ≡ length l = omega arith in
-        (fewer, rw (less, ← is, lt-leb need e.length.0 k))
+        (fewer, ap (λ (n : ℕ). settle n now need (remove e (x ∷ l))) less ∙ sym (turned (length l) x e (nearest now x l) l is k))
 
     pub choice-of : (s : GrantList) (p : Packs s) → settle (length p.list) now need p.list ≡ settle (length (list_of s)) now need (list_of s)
     choice-of s p = ap (λ (l : List Span). settle (length l) now need l) (sym (packs-list s p))

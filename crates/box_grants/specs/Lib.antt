@@ -5,3 +5,4 @@ pub mod Listed
 pub mod Nearest
 pub mod Sifting
 pub mod Sound
+pub mod Walk

@@ -1,34 +1,37 @@
 // The list of grants that a box holds: at most sixteen, in order of arrival.
-ghost use Rattle.std.specs.Prelude.{◌≡◌, [], min, get_or};
+#![tactic(auto)]
+
+ghost use Rattle.std.specs.Prelude.{◌≡◌, false, [], min, get_or};
 ghost use Rattle.clock.specs.Spans.{none};
 ghost use Rattle.box_grants.specs.Activation.{room, holds, ahead, nearest, remove};
 ghost use Rattle.box_grants.specs.Listed.{list_of, packed, pushed, choose_of};
 ghost use Rattle.box_grants.specs.Sifting.{kept, sifted};
+ghost use Rattle.box_grants.specs.Walk.{leaves, sift};
 ghost use Rattle.box_grants.specs.Sound.{sound_of};
 
 use clock::{Count, Span};
 
-#[derive(Drop)]
+#[derive(Clone, Copy)]
 pub struct GrantList {
     pub entries: [Span; 16],
     pub number: usize,
 }
 
 // The grant to wait for, if there is one.
-#[derive(Drop)]
+#[derive(Clone, Copy)]
 pub enum Chosen {
     Nothing,
     Due(Span),
 }
 
-#[derive(Drop)]
+#[derive(Clone, Copy)]
 pub struct Choice {
     pub list: GrantList,
     pub chosen: Chosen,
 }
 
 // A list on its way without an entry, and whether the entry was met.
-#[derive(Drop)]
+#[derive(Clone, Copy)]
 struct Sieve {
     list: GrantList,
     met: bool,
@@ -51,6 +54,25 @@ impl Sieve {
         Sieve {
             list: list.push(e),
             met: false,
+        }
+    }
+}
+
+// Which grants leave a list: those whose start is past, seen from a count, or the earliest that is equal to an entry.
+#[derive(Clone, Copy)]
+enum Leaving {
+    Past(Count),
+    Equal(Span),
+}
+
+impl Leaving {
+    // Whether an entry leaves, behind others of which one has left or none.
+    fn takes(self, gone: bool, e: Span) -> bool
+        ensures { result ≡ leaves self gone e }
+    {
+        match self {
+            Leaving::Past(now) => now.is_past(e.start),
+            Leaving::Equal(entry) => !gone & entry.same(e),
         }
     }
 }
@@ -138,20 +160,36 @@ impl GrantList {
         self.push(e)
     }
 
+    // What stays, in its order: one walk, into one array.
+    fn sift(self, leaving: Leaving) -> GrantList
+        ensures { result ≡ packed (sift leaving false (list_of self)) }
+    {
+        let entries = self.entries;
+        let end = self.held();
+        let none = Span::none();
+        let mut stay = [none; 16];
+        let mut k = 0;
+        let mut i = 0;
+        while i < end {
+            let e = entries[i];
+            // Where one has left, fewer were stored than read.
+            if !leaving.takes(k < i, e) {
+                stay[k] = e;
+                k += 1;
+            }
+            i += 1;
+        }
+        GrantList {
+            entries: stay,
+            number: k,
+        }
+    }
+
     // The grants whose start is not past, in their order.
     fn ahead(self, now: Count) -> GrantList
         ensures { result ≡ packed (ahead now.0 (list_of self)) }
     {
-        let entries = self.entries;
-        let n = self.held();
-        let mut out = GrantList::empty();
-        let mut i = 0;
-        while i < n {
-            let e = entries[i];
-            out = out.keep(now, e);
-            i += 1;
-        }
-        out
+        self.sift(Leaving::Past(now))
     }
 
     // The smallest distance, earliest arrival first.
@@ -174,17 +212,7 @@ impl GrantList {
     pub fn without(self, out: Span) -> GrantList
         ensures { result ≡ packed (remove out (list_of self)) }
     {
-        let entries = self.entries;
-        let n = self.held();
-        let list = GrantList::empty();
-        let mut sieve = Sieve { list, met: false };
-        let mut i = 0;
-        while i < n {
-            let e = entries[i];
-            sieve = sieve.sift(out, e);
-            i += 1;
-        }
-        sieve.list
+        self.sift(Leaving::Equal(out))
     }
 
     // Without the past ones, and without the too short ones that would come first: the grant to wait for.

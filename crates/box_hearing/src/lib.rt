@@ -1,4 +1,6 @@
 // What a message does to the box's processes: discovery GATE, REGISTER and normal GATE (R106 to R124).
+#![tactic(auto)]
+
 ghost use Rattle.std.specs.Prelude.{◌≡◌};
 ghost use mathlib.Core.List.{foldl};
 ghost use Rattle.frame.specs.Layout.{listed};
@@ -17,7 +19,7 @@ use frame::{Body, Grant, Grants, RegisterAckFlag, RegisterFlag};
 use frame_queues::Sets;
 
 // A list on its way through a GATE, and what is told of it.
-#[derive(Drop)]
+#[derive(Clone, Copy)]
 struct Taking {
     list: GrantList,
     notices: Notices,

@@ -7,7 +7,7 @@ use native.Mathlib.Omega.{arith}
 use lib.Dec.{eqb}
 use Rattle.frame_range.specs.Fits.{is_individual}
 use Rattle.box_grants.specs.Sound.{sound_of as list_sound}
-use Rattle.box_light.specs.Laws.{rests-is}
+use Rattle.box_light.proofs.Laws.{rests-is}
 use Rattle.box_light.specs.Light.{rests, shines, glows, sends}
 use Rattle.box_light.specs.Sound.{sound_of as light_sound}
 use Rattle.box_light.specs.declared.Phase.{Phase}

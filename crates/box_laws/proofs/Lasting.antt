@@ -14,7 +14,7 @@ use Rattle.clock.specs.Laws.{ticked-on, ticked-rings, quiet-on, passed-left, pas
 use Rattle.clock.specs.Timers.{ticked, passed_of as timer_passed, quiet_of as timer_quiet}
 use Rattle.clock.specs.declared.Timer.{Timer}
 use Rattle.box_grants.specs.declared.GrantList.{GrantList}
-use Rattle.box_light.specs.Laws.{tick-quiet, passed-rest, passed-joins, quiet-less}
+use Rattle.box_light.proofs.Laws.{tick-quiet, passed-rest, passed-joins, quiet-less}
 use Rattle.box_light.specs.Light.{light_in, resting, rests, is_at_rest}
 use Rattle.box_light.specs.Pass.{passed_of, quiet_of}
 use Rattle.box_light.specs.Tick.{after, tick_of as light_tick}
@@ -42,7 +42,7 @@ use Rattle.box_calls.specs.declared.Answer.{Answer}
 use Rattle.box_calls.specs.declared.FloorBox.{FloorBox}
 use Rattle.box_laws.specs.Stated.{tick, Run, calls}
 use Rattle.box_laws.specs.Calls.{call-accepted}
-use Rattle.box_laws.specs.Runs.{run-tick-done}
+use Rattle.box_laws.proofs.Runs.{run-tick-done}
 use Rattle.box_laws.specs.Served.{ticks_on, light_at, told_at}
 
 -- ONE TICK

@@ -1,9 +1,14 @@
 pub mod Activated
+pub mod Advance
 pub mod Discovery
+pub mod Frames
 pub mod Laser
 pub mod Lasting
 pub mod Lit
+pub mod Refused
+pub mod Runs
 pub mod Served
 pub mod Sources
+pub mod Steady
 pub mod Sums
 pub mod Window

@@ -22,7 +22,7 @@ use Rattle.box_grants.specs.Laws.{packed-list}
 use Rattle.box_grants.specs.Listed.{list_of, packed, choose_of}
 use Rattle.box_grants.specs.declared.Chosen.TheVariants as chosen
 use Rattle.box_grants.specs.declared.GrantList.{GrantList}
-use Rattle.box_light.specs.Laws.{served-in, due-parts, on-for}
+use Rattle.box_light.proofs.Laws.{served-in, due-parts, on-for}
 use Rattle.box_light.specs.Light.{light_in, resting, fading, laser_on_for, open_for, is_at_rest}
 use Rattle.box_light.specs.declared.Phase.TheVariants.{Due, Lit, Open}
 use Rattle.box_registration.specs.Registration.{is_registered}
@@ -33,11 +33,11 @@ use Rattle.box_activation.specs.Activation.{light_up, begin, activate}
 use Rattle.box_calls.specs.Box.{tick_of}
 use Rattle.box_calls.specs.declared.FloorBox.{FloorBox}
 use Rattle.box_laws.specs.Activation.{held-registered}
-use Rattle.box_laws.specs.Runs.{run_holds}
+use Rattle.box_laws.proofs.Runs.{run_holds}
 use Rattle.box_laws.specs.Served.{ticks_on, light_at, Lights, Tells, Waits, Serves, GrantServed}
 use Rattle.box_laws.specs.Sound.{registered-is}
 use Rattle.box_laws.proofs.Activated.{activate-leaves}
-use Rattle.box_laws.proofs.Lasting.{Lasts, Leaves, Ended, on-time, left_as, rung, from, light, weaker, on, next}
+use Rattle.box_laws.proofs.Lasting.{Lasts, Leaves, Ended, on-time, left_as, rung, from, light, weaker, next}
 use Rattle.box_laws.proofs.Lit.{Dark, waits-dark, lights-behind, tells-behind, Burns, end, lights-of, tells-of}
 
 -- THE LAST TICK of each phase

@@ -26,7 +26,8 @@ use Rattle.box_calls.specs.declared.Advanced.{Advanced}
 use Rattle.box_calls.specs.declared.Answer.{Answer}
 use Rattle.box_calls.specs.declared.FloorBox.{FloorBox}
 use Rattle.box_laws.specs.Calls.{step, Outcome, unsound, refuses, accepts, outcome, call-accepted}
-use Rattle.box_laws.specs.Frames.{Handed, step_count, call-frames}
+use Rattle.box_laws.specs.Frames.{Handed}
+use Rattle.box_laws.proofs.Frames.{step_count, call-frames}
 use Rattle.box_laws.specs.Sources.{HeardSource, Sourced, SentSource, AdvanceSource}
 use Rattle.box_laws.specs.Stated.{Call, hear, tick, answer, CallTyped}
 use Rattle.box_laws.proofs.Activated.{activate-leaves}

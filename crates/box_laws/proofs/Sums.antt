@@ -42,7 +42,7 @@ use Rattle.box_calls.specs.declared.FloorBox.{FloorBox}
 use Rattle.box_laws.specs.Calls.{call-accepted}
 use Rattle.box_laws.specs.Stated.{hear, tick, Run, calls}
 use Rattle.box_laws.specs.Gate.{gate-list}
-use Rattle.box_laws.specs.Runs.{run_holds}
+use Rattle.box_laws.proofs.Runs.{run_holds}
 use Rattle.box_laws.specs.Sends.{tick-sends}
 use Rattle.box_laws.specs.Served.{ticks_on, Waits, Serves, GrantServed}
 use Rattle.box_laws.specs.Sound.{count-keeps}

@@ -18,7 +18,7 @@ use Rattle.frame.specs.declared.Grant.{Grant}
 use Rattle.frame.specs.declared.Message.{Message}
 use Rattle.frame_range.specs.Fits.{fits_grant, fits_body}
 use Rattle.frame_range.specs.Laws.{message-parts}
-use Rattle.box_light.specs.Laws.{on-for}
+use Rattle.box_light.proofs.Laws.{on-for}
 use Rattle.box_light.specs.Light.{light_in, resting, fading, laser_on_for, randomly, is_at_rest}
 use Rattle.box_light.specs.declared.Light.{Light}
 use Rattle.box_light.specs.declared.Phase.{Phase}
@@ -38,7 +38,7 @@ use Rattle.box_laws.specs.Calls.{call-accepted}
 use Rattle.box_laws.specs.Served.{ticks_on, light_at, Lights, Tells}
 use Rattle.box_laws.specs.Stated.{hear, calls}
 use Rattle.box_laws.specs.Window.{Called, Asks, WindowServed, WaitInside}
-use Rattle.box_laws.proofs.Lasting.{Lasts, Leaves, on-time, left_in, left_as, rung, from, light, light-from, told-from, on, next}
+use Rattle.box_laws.proofs.Lasting.{Lasts, Leaves, on-time, left_in, left_as, rung, from, light, light-from, told-from, next}
 use Rattle.box_laws.proofs.Lit.{Dark, waits-dark, lights-behind, tells-behind, Burns, end, lights-of, tells-of}
 
 -- THE LAST TICK of each phase

@@ -16,7 +16,7 @@ use Rattle.box_grants.specs.Keeps.{Fulfils, without-sound, without-entries, choo
 use Rattle.box_grants.specs.Listed.{list_of, packed, choose_of}
 use Rattle.box_grants.specs.declared.Chosen.{Chosen}
 use Rattle.box_grants.specs.declared.Chosen.TheVariants.{Nothing, Due}
-use Rattle.box_light.specs.Laws.{served-of, rest-sound, due-sound, lit-sound}
+use Rattle.box_light.proofs.Laws.{served-of, rest-sound, due-sound, lit-sound}
 use Rattle.box_light.specs.Light.{light_in, is_at_rest}
 use Rattle.box_light.specs.Sound.{served}
 use Rattle.box_light.specs.declared.Phase.TheVariants as Phase

@@ -23,7 +23,7 @@ use Rattle.box_calls.specs.Box.{sound_of, register_of, deregister_of, report_of,
 use Rattle.box_calls.specs.Hear.{is_for, heard_of, hear_of}
 use Rattle.box_calls.specs.declared.Answer.{Answer}
 use Rattle.box_calls.specs.declared.FloorBox.{FloorBox}
-use Rattle.box_laws.specs.Stated.{Call, register, deregister, report, hear, tick, answer, Unchanged}
+use Rattle.box_laws.specs.Stated.{Call, register, deregister, report, hear, tick, answer}
 
 -- the tests of a call after that of the box, in order
 abbrev pub tests : Call → FloorBox → List Test
@@ -105,16 +105,3 @@ done-accepts c b x (accepts s h e) d = record { sound = s; passed = h; answered 
 
 pub call-accepted : (c : Call) (b : FloorBox) → (answer c b).reply ≡ Done → Accepted c b (answer c b)
 call-accepted c b = done-accepts c b (answer c b) (outcome c b)
-
-refusal : (b : FloorBox) (x : Answer) (r : Reply) → x ≡ refused b r → Unchanged b x
-refusal b x r e = rw e (record { drift = refl; next = refl; frames = refl; notices = refl })
-
-unchanged : (c : Call) (b : FloorBox) (x : Answer) → Outcome c b x → x.reply ≢ Done → Unchanged b x
-unfolding accepted
-unchanged c b x (unsound s e) n = refusal b x Unsound e
-unchanged c b x (refuses s r o u e) n = refusal b x r e
-unchanged c b x (accepts s h e) n = absurd (n (ap (λ (y : Answer). y.reply) e))
-
--- each refusal changes nothing
-pub refused-unchanged : (c : Call) (b : FloorBox) → (answer c b).reply ≢ Done → Unchanged b (answer c b)
-refused-unchanged c b = unchanged c b (answer c b) (outcome c b)

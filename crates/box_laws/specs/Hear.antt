@@ -19,7 +19,7 @@ use Rattle.frame.specs.declared.RegisterFlag.{RegisterFlag}
 use Rattle.frame.specs.declared.RegisterFlag.TheVariants.{Reregister, Deregister, Ack, Nack}
 use Rattle.frame_range.specs.Fits.{fits_grant, fits_all, fits_body}
 use Rattle.box_grants.specs.declared.GrantList.{GrantList}
-use Rattle.box_light.specs.Laws.{fits-of, random-fits, resting-sound, before-sound, randomly-sound, sound-list}
+use Rattle.box_light.proofs.Laws.{fits-of, random-fits, resting-sound, before-sound, randomly-sound, sound-list}
 use Rattle.box_light.specs.Light.{is_at_rest}
 use Rattle.box_light.specs.Sound.{wait_fits, sound_of as light_sound}
 use Rattle.box_light.specs.declared.Light.{Light}

@@ -8,7 +8,7 @@ use Rattle.clock.specs.declared.Count.{Count}
 use Rattle.box_grants.specs.Keeps.{packed-entries, packed-sound}
 use Rattle.box_grants.specs.Sound.{sound_of as list_sound}
 use Rattle.box_grants.specs.declared.GrantList.{GrantList}
-use Rattle.box_light.specs.Laws.{resting-sound}
+use Rattle.box_light.proofs.Laws.{resting-sound}
 use Rattle.box_light.specs.Sound.{sound_of as light_sound}
 use Rattle.box_light.specs.declared.Light.{Light}
 use Rattle.box_registration.specs.Laws.{waiting-sound, registering-sound, sync-fits}

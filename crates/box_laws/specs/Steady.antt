@@ -13,7 +13,7 @@ use Rattle.box_calls.specs.Answer.{accepted}
 use Rattle.box_calls.specs.declared.Answer.{Answer}
 use Rattle.box_calls.specs.declared.FloorBox.{FloorBox}
 use Rattle.box_laws.specs.Activation.{activate-keeps}
-use Rattle.box_laws.specs.Awaited.{Calm, none, activate-calm, tick_calm, hear-calm}
+use Rattle.box_laws.specs.Awaited.{Calm, none, tick_calm, hear-calm}
 use Rattle.box_laws.specs.Calls.{tests, step, Outcome, unsound, refuses, accepts, outcome}
 use Rattle.box_laws.specs.Stated.{Call, register, deregister, report, hear, tick, answer}
 use Rattle.box_laws.specs.Hear.{hear-keeps}
@@ -32,7 +32,7 @@ step_keeps (hear m random) b s h =
     (count-keeps b.processes s m.timestamp) (message-parts m h.1.1.0).2
 step_keeps tick b s h = tick-keeps b.processes s h.0
 
-step-calm : (c : Call) (b : FloorBox) → Calm b.processes → Calm (step c b).next
+pub step-calm : (c : Call) (b : FloorBox) → Calm b.processes → Calm (step c b).next
 step-calm register b s = λ _. refl
 step-calm deregister b s = none
 step-calm (report sets) b s = s
@@ -41,7 +41,7 @@ step-calm (hear m random) b s =
 step-calm tick b s = (tick_calm b.processes s).1
 
 -- a refusal changes nothing, and what is accepted ends in activation
-next-keeps : (P : Processes → Type 0) (c : Call) (b : FloorBox) (x : Answer) → P b.processes
+pub next-keeps : (P : Processes → Type 0) (c : Call) (b : FloorBox) (x : Answer) → P b.processes
     → (Passed (tests c b) → P (activate (step c b).next)) → Outcome c b x → P x.next.processes
 unfolding accepted
 next-keeps P c b x s f (unsound u e) = rw e s
@@ -57,16 +57,9 @@ pub record Steady (p : Processes) : Type 0 where
   pub sound : Sound p
   pub awaited : Calm p
 
--- a fresh box is steady, and every call keeps it so
+-- a fresh box is steady
 pub fresh-steady : Steady fresh
 fresh-steady = record { sound = fresh-sound; awaited = none }
-
-pub call-steady : (c : Call) (b : FloorBox) → Steady b.processes → Steady (answer c b).next.processes
-call-steady c b s =
-    record {
-      sound = call-keeps c b s.sound;
-      awaited = next-keeps Calm c b (answer c b) s.awaited (λ _. activate-calm (step c b).next (step-calm c b s.awaited)) (outcome c b);
-    }
 
 -- the window of a steady box opens in REGISTERING, if it opens
 pub tick-ok : (p : Processes) → Steady p → (tick_of p).ok ≡ true

@@ -6,13 +6,14 @@ use Rattle.clock.specs.Counts.{next_of}
 use Rattle.clock.specs.Laws.{ticked-off}
 use Rattle.clock.specs.Timers.{ticked}
 use Rattle.box_grants.specs.declared.GrantList.{GrantList}
-use Rattle.box_light.specs.Laws.{rest-off, Begins, tick-keeps as light-keeps, tick-begins}
+use Rattle.box_light.proofs.Laws.{rest-off, Begins, tick-keeps as light-keeps, tick-begins}
 use Rattle.box_light.specs.Light.{is_at_rest}
 use Rattle.box_light.specs.Sound.{sound_of as light_sound}
 use Rattle.box_light.specs.Tick.{tick_of as light_tick}
 use Rattle.box_light.specs.declared.Beam.{Beam}
 use Rattle.box_light.specs.declared.Light.{Light}
-use Rattle.box_registration.specs.Laws.{tick-keeps as registration-keeps, sync-fits, requesting-sound}
+use Rattle.box_registration.proofs.Kept.{tick-keeps as registration-keeps}
+use Rattle.box_registration.specs.Laws.{sync-fits, requesting-sound}
 use Rattle.box_registration.specs.Registration.{requesting}
 use Rattle.box_registration.specs.Sound.{sound_of as registration_sound}
 use Rattle.box_registration.specs.Tick.{tick_wait, tick_report, tick_watchdog, tick_in, tick_of as registration_tick}

@@ -1,4 +1,6 @@
 // The box's transmitter: what it waits for or does, and the timer of that.
+#![tactic(auto)]
+
 ghost use Rattle.std.specs.Prelude.{◌≡◌};
 ghost use Rattle.box_light.specs.Light.{light_in, resting, fading, laser_on_for, open_for, rests, is_at_rest, randomly, remaining};
 ghost use Rattle.box_light.specs.Pass.{passed_of, quiet_of};
@@ -10,7 +12,7 @@ use clock::{Count, Quanta, Span, Timer};
 
 // Discovery: before its start, in the random wait, laser on, transmission enabled. A normal grant: waited for, laser on,
 // transmission enabled. After both: laser ordered off, which takes its time to go dark.
-#[derive(Drop)]
+#[derive(Clone, Copy)]
 pub enum Phase {
     Rest,
     Before { random: Quanta, sync: Quanta },
@@ -24,14 +26,14 @@ pub enum Phase {
 }
 
 // At rest the timer is stopped; in the other phases it runs.
-#[derive(Drop)]
+#[derive(Clone, Copy)]
 pub struct Light {
     pub phase: Phase,
     pub timer: Timer,
 }
 
 // What a tick of the transmitter brings: discovery transmission is enabled, a grant's start has come, its window opens, closes.
-#[derive(Drop)]
+#[derive(Clone, Copy)]
 pub enum Beam {
     Quiet,
     Window,
@@ -40,7 +42,7 @@ pub enum Beam {
     Closed,
 }
 
-#[derive(Drop)]
+#[derive(Clone, Copy)]
 pub struct LightTicked {
     pub light: Light,
     pub beam: Beam,

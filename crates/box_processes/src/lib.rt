@@ -1,4 +1,6 @@
 // The box's processes: its count, its registration, its list of grants and its transmitter.
+#![tactic(auto)]
+
 ghost use Rattle.std.specs.Prelude.{◌≡◌};
 ghost use Rattle.box_processes.specs.Leaving.{farewell, local_deregister};
 ghost use Rattle.box_processes.specs.Parts.{fresh, with_count, with_registration, with_list, with_light, waiting, still};
@@ -14,7 +16,7 @@ use clock::Count;
 use frame::{Body, RegisterReqFlag};
 use frame_queues::Sets;
 
-#[derive(Drop)]
+#[derive(Clone, Copy)]
 pub struct Processes {
     pub count: Count,
     pub registration: Registration,
@@ -24,7 +26,7 @@ pub struct Processes {
 
 // What a message or a tick does: the processes after it, what is told, and what is sent, in order. Only a discovery window that opens
 // on a box not REGISTERING is not ok.
-#[derive(Drop)]
+#[derive(Clone, Copy)]
 pub struct Step {
     pub ok: bool,
     pub next: Processes,

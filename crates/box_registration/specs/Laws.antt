@@ -40,14 +40,14 @@ unfolding sound_of off runs
 registered-sound port sync s = s
 
 -- what a sound registration has, and its timers one by one
-sound-parts : (r : Registration) → sound_of r ≡ true → (sound_in r.state r ≡ true) × (leb r.sync.0 65535 ≡ true)
+pub sound-parts : (r : Registration) → sound_of r ≡ true → (sound_in r.state r ≡ true) × (leb r.sync.0 65535 ≡ true)
 unfolding sound_of
 sound-parts r h = (and-eq-true_iff (sound_in r.state r) (leb r.sync.0 65535)).0 h
 
 pub sync-fits : (r : Registration) → sound_of r ≡ true → leb r.sync.0 65535 ≡ true
 sync-fits r h = (sound-parts r h).1
 
-parts : (a b c : Bool) → (a && b && c) ≡ true → (a ≡ true) × (b ≡ true) × (c ≡ true)
+pub parts : (a b c : Bool) → (a && b && c) ≡ true → (a ≡ true) × (b ≡ true) × (c ≡ true)
 parts a b c h =
     let p = (and-eq-true_iff (a && b) c).0 h in
     let q = (and-eq-true_iff a b).0 p.0 in
@@ -57,46 +57,25 @@ whole : {a b c d : Bool} → a ≡ true → b ≡ true → c ≡ true → d ≡ 
 whole p q r s = rw (p, q, r, s)
 
 -- r in the state s
-abbrev at : State → Registration → Registration
+abbrev pub at : State → Registration → Registration
 at s r = record { state = s; wait = r.wait; watchdog = r.watchdog; report = r.report; port = r.port; sync = r.sync }
 
-abbrev Keeps : Ticked → Type 0
+abbrev pub Keeps : Ticked → Type 0
 Keeps t = sound_of t.registration ≡ true
 
-wait-keeps : (r : Registration) → sound_in RegisterReq r ≡ true → leb r.sync.0 65535 ≡ true → Keeps (tick_wait (at RegisterReq r))
+pub wait-keeps : (r : Registration) → sound_in RegisterReq r ≡ true → leb r.sync.0 65535 ≡ true → Keeps (tick_wait (at RegisterReq r))
 unfolding sound_of tick_wait
 wait-keeps r h s =
     let p = parts (runs r.wait wait) (off r.watchdog) (off r.report) h in
     either Keeps (ticked r.wait).rang _ _ (λ _. registering-sound r s)
     (λ t. whole (ticked-runs r.wait wait p.0 t) p.1 p.2 s)
 
-report-keeps : (r : Registration) → sound_in Registered r ≡ true → leb r.sync.0 65535 ≡ true → Keeps (tick_report (at Registered r))
+pub report-keeps : (r : Registration) → sound_in Registered r ≡ true → leb r.sync.0 65535 ≡ true → Keeps (tick_report (at Registered r))
 unfolding sound_of tick_report runs
 report-keeps r h s =
     let p = parts (off r.wait) (runs r.watchdog watchdog) (runs r.report periodic) h in
     either Keeps (ticked r.report).rang _ _ (λ _. whole p.0 p.1 refl s)
     (λ t. whole p.0 p.1 (ticked-runs r.report periodic p.2 t) s)
-
-watchdog-keeps : (r : Registration) → sound_in Registered r ≡ true → leb r.sync.0 65535 ≡ true → Keeps (tick_watchdog (at Registered r))
-unfolding tick_watchdog
-watchdog-keeps r h s =
-    let p = parts (off r.wait) (runs r.watchdog watchdog) (runs r.report periodic) h in
-    either Keeps (ticked r.watchdog).rang _ _ (λ _. waiting-sound r s)
-    (λ t.
-    report-keeps (record { state = Registered; wait = r.wait; watchdog = (ticked r.watchdog).timer; report = r.report; port = r.port; sync = r.sync })
-    (rw (p.0, ticked-runs r.watchdog watchdog p.1 t, p.2)) s)
-
-keeps : (s : State) (r : Registration) → sound_in s r ≡ true → leb r.sync.0 65535 ≡ true → Keeps (tick_in s (at s r))
-unfolding sound_of
-keeps Wait r h s = rw (h, s)
-keeps Registering r h s = rw (h, s)
-keeps RegisterReq r h s = wait-keeps r h s
-keeps Registered r h s = watchdog-keeps r h s
-
-pub tick-keeps : (r : Registration) → sound_of r ≡ true → sound_of (tick_of r).registration ≡ true
-tick-keeps r h =
-    let p = sound-parts r h in
-    keeps r.state r p.0 p.1
 
 -- in REGISTERED watchdog and report timer may be other ones that run
 renewed-in : (s : State) (r t : Registration) → is_registered s ≡ true → sound_in s r ≡ true
@@ -151,9 +130,6 @@ passes Registered r h q =
 
 pub tick-quiet : (r : Registration) → sound_of r ≡ true → 1 ≤ quiet_of r → tick_of r ≡ record { registration = passed_of r 1; bell = Quiet }
 tick-quiet r h q = passes r.state r (sound-parts r h).0 q
-
-pub passed-sound : (r : Registration) → sound_of r ≡ true → 1 ≤ quiet_of r → sound_of (passed_of r 1) ≡ true
-passed-sound r h q = rw (tick-quiet r h q) at (tick-keeps r h)
 
 pub passed-joins : (r : Registration) (k : ℕ) → passed_of (passed_of r 1) k ≡ passed_of r (suc k)
 unfolding passed_of

@@ -1,4 +1,6 @@
 // The box's registration: its state, the timers that the state runs, and what a REGISTER gave it.
+#![tactic(auto)]
+
 ghost use Rattle.std.specs.Prelude.{◌≡◌};
 ghost use Rattle.box_registration.specs.Registration.{fresh, entering, waiting, registering, requesting, registered, heard, reported, is_waiting, is_registered, is_registering};
 ghost use Rattle.box_registration.specs.Pass.{passed_of, quiet_of};
@@ -7,7 +9,7 @@ ghost use Rattle.box_registration.specs.Sound.{sound_in, sound_of};
 
 use clock::{Quanta, Timer};
 
-#[derive(Drop)]
+#[derive(Clone, Copy)]
 pub enum State {
     Wait,
     Registering,
@@ -15,7 +17,7 @@ pub enum State {
     Registered,
 }
 
-#[derive(Drop)]
+#[derive(Clone, Copy)]
 pub struct Registration {
     pub state: State,
     pub wait: Timer,
@@ -26,7 +28,7 @@ pub struct Registration {
 }
 
 // What a tick of the registration's timers brings.
-#[derive(Drop)]
+#[derive(Clone, Copy)]
 pub enum Bell {
     Quiet,
     Retry,
@@ -34,7 +36,7 @@ pub enum Bell {
     Report,
 }
 
-#[derive(Drop)]
+#[derive(Clone, Copy)]
 pub struct Ticked {
     pub registration: Registration,
     pub bell: Bell,

@@ -1,10 +1,12 @@
 // What a call of the box tells its client, and the frames that it hands out.
+#![tactic(auto)]
+
 ghost use Rattle.std.specs.Prelude.{◌≡◌};
 ghost use Rattle.box_telling.specs.Told.{is_nothing, no_notices, added, no_frames, handed};
 
 use frame::{Body, Grant};
 
-#[derive(Drop)]
+#[derive(Clone, Copy)]
 pub enum Notice {
     Nothing,
     Window,
@@ -18,7 +20,7 @@ pub enum Notice {
 }
 
 // In order, and nothing behind the last.
-#[derive(Drop)]
+#[derive(Clone, Copy)]
 pub struct Notices {
     pub first: Notice,
     pub second: Notice,
@@ -27,14 +29,14 @@ pub struct Notices {
 }
 
 // A frame on its way out, before its octets.
-#[derive(Drop)]
+#[derive(Clone, Copy)]
 pub enum Sent {
     Nothing,
     Is(Body),
 }
 
 // In order; octets that no frame takes are zero.
-#[derive(Drop)]
+#[derive(Clone, Copy)]
 pub struct Frames {
     pub number: usize,
     pub first: [u8; 60],

@@ -1,4 +1,6 @@
 // A tick of the box's processes, stage by stage (R136).
+#![tactic(auto)]
+
 ghost use Rattle.std.specs.Prelude.{◌≡◌, true};
 ghost use Rattle.box_ticking.specs.Tick.{ring, shine, timed, transmitted, tick_of};
 
@@ -11,7 +13,7 @@ use frame::{Body, RegisterReqFlag};
 use frame_queues::Sets;
 
 // The processes on their way through a tick, and what this stage tells and sends.
-#[derive(Drop)]
+#[derive(Clone, Copy)]
 pub struct Stage {
     pub ok: bool,
     pub next: Processes,

@@ -1,0 +1,8 @@
+-- `box_calls::FloorBox::is_for` meets its promise.
+-- Assumes nothing.
+use Rattle.box_calls.specs.Hear.{is_for}
+use Rattle.box_calls.proofs.FloorBox.is_for.Goals as goal
+
+pub returns : goal.returns
+unfolding is_for
+returns c = rw c.is_discovery.ensures
