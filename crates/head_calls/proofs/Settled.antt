@@ -1,5 +1,5 @@
--- Every promise of this crate settles the whole answer, and what then stands in the table and in the output. Both functions are walked by
--- hand: what their clauses say is written out as a claim, and that it is the clause of the source is checked.
+-- Every promise of this crate settles the whole answer, and what then stands in the table and in the output. What the clauses
+-- of both functions say is written out as a claim, and that it is the clause of the source is checked.
 -- Assumes nothing.
 use mathlib.Core.Path.{◌≡◌, refl, sym, ap, ◌∙◌}
 use Prim.Native.Nat.{ℕ}

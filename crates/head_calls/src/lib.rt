@@ -1,4 +1,6 @@
 // The head's calls, over the table of links and the output that the caller lends. Each answers every input.
+#![tactic(auto)]
+
 ghost use Rattle.std.specs.Prelude.{◌≡◌};
 ghost use Rattle.head_calls.specs.Clearing.{clearing};
 ghost use Rattle.head_calls.specs.Fresh.{begun_of, is_done, freshly, fresh_of};
@@ -12,7 +14,7 @@ use head_state::Head;
 use head_table::{Event, Sender};
 
 // What a call is answered with: the number on the card, the head after the call, how many frames stand in the output, the notice, and how many ticks an advance made.
-#[derive(Drop)]
+#[derive(Clone, Copy)]
 pub struct Answer {
     pub reply: Reply,
     pub next: Head,

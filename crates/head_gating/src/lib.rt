@@ -1,4 +1,6 @@
 // What a gate request asks for: a number of grants, the first four of them, and force bits as an octet.
+#![tactic(auto)]
+
 ghost use Rattle.std.specs.Prelude.{◌≡◌};
 ghost use Rattle.head_gating.specs.Asked.{grant_of, first, second, third, fourth, grants_of, allowed, fits};
 
@@ -6,7 +8,7 @@ use clock::Span;
 use frame::{Grant, Grants};
 
 // Of more than four grants only the first four are handed in; those beyond the number asked for are not judged.
-#[derive(Drop)]
+#[derive(Clone, Copy)]
 pub struct Asked {
     pub number: usize,
     pub first: Span,

@@ -1,4 +1,6 @@
 // What the head makes of a message: the tests, in their order, and what is to be done.
+#![tactic(auto)]
+
 ghost use Rattle.std.specs.Prelude.{◌≡◌};
 ghost use Rattle.head_hearing.specs.Hear.{asks_to_register, is_newcomer, is_for, on_link, in_state, by_party, on_registered, confirmed, requested, heard_of, hear_of};
 

@@ -1,4 +1,6 @@
 // The head's judgement of a call: the number, and what is to be done, before anything is changed.
+#![tactic(auto)]
+
 ghost use Rattle.std.specs.Prelude.{◌≡◌};
 ghost use Rattle.head_judging.specs.Judge.{look_for, look_of, advance_of, decide_of, is_sound, has_room, judge_of};
 
@@ -11,7 +13,7 @@ use head_survey::{Facts, Look};
 use head_table::Event;
 
 // Every call of a head that stands. A link's number is handed in at full width, so that 65,537 isn't link 1.
-#[derive(Drop)]
+#[derive(Clone, Copy)]
 pub enum Call {
     Open {
         start: Count,

@@ -14,7 +14,7 @@ use Rattle.clock.specs.Numbers.{start_in_range, serves}
 use Rattle.clock.specs.declared.Count.{Count}
 use Rattle.clock.specs.declared.Quanta.{Quanta}
 use Rattle.head_state.specs.Head.{with_window}
-use Rattle.head_state.specs.Laws.{window-tick, window-join}
+use Rattle.head_state.proofs.Laws.{window-tick, window-join}
 use Rattle.head_state.specs.Window.{longest_window, fits, is_idle, is_inside, inside_for, opened, inside_after, before_after, window_after}
 use Rattle.head_state.specs.declared.Head.{Head}
 use Rattle.head_state.specs.declared.Window.{Window}

@@ -21,12 +21,11 @@ use Rattle.frame.specs.Card.{◌unless◌, given}
 use Rattle.frame.specs.declared.Reply.{Reply}
 use Rattle.frame.specs.declared.Reply.TheVariants as number
 use Rattle.head_state.specs.Head.{tick_of as head_tick, sound_of as head_sound, after_of}
-use Rattle.head_state.specs.Laws.{head-tick, head-join}
+use Rattle.head_state.proofs.Laws.{head-tick, head-join}
 use Rattle.head_state.specs.declared.Head.{Head}
 use Rattle.lent.specs.Folds.{places, each}
-use Rattle.head_links.specs.Laws.{Sends, tick-quiet, tick-sends, quiet-less}
+use Rattle.head_links.proofs.Laws.{Sends, tick-quiet, tick-sends, quiet-less}
 use Rattle.head_links.specs.Pass.{passed_of, quiet_of}
-use Rattle.head_links.specs.Sound.{sound_of}
 use Rattle.head_links.specs.Tick.{tick_of}
 use Rattle.head_links.specs.declared.Link.{Link}
 use Rattle.head_links.specs.declared.Stepped.{Stepped}

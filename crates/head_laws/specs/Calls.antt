@@ -8,7 +8,7 @@ use Rattle.clock.specs.Numbers.{is_in_reach, fits}
 use Rattle.frame.specs.Card.{Test, ◌unless◌, given, number_of}
 use Rattle.frame.specs.Tests.{Passed, Each, given-either}
 use Rattle.frame.specs.Ways.{goes_to_head}
-use Rattle.frame.specs.declared.Body.TheVariants.{Gate, Discovery, Register}
+use Rattle.frame.specs.declared.Body.TheVariants.{Discovery, Register}
 use Rattle.frame.specs.declared.RegisterFlag.{RegisterFlag}
 use Rattle.frame.specs.declared.Reply.{Reply}
 use Rattle.frame.specs.declared.Reply.TheVariants.{Range, Direction, State, Party, Grant, Held, Full, Output, Unsound}

@@ -1,6 +1,6 @@
 -- Lemmas: ticks at which no link rings, passed at once: the table stays sound, and a leap is a tick of the table so passed.
 -- Assumes nothing.
-use Rattle.std.specs.Prelude.{ℕ, suc, ◌+◌, ◌-◌, ◌≤◌, ◌<◌, ◌%◌, ◌^◌, ◌≡◌, refl, true, List, [], ◌∷◌, length}
+use Rattle.std.specs.Prelude.{ℕ, suc, ◌+◌, ◌≤◌, ◌<◌, ◌%◌, ◌^◌, ◌≡◌, refl, true, List, [], ◌∷◌, length}
 use Rattle.std.proofs.Common.{ap, ⊎_elim, arith, lt-ltb, le-ltb, eq-eqb, ne_eqb}
 use Rattle.std.proofs.lemmas.Bool.{lt-leb}
 use Rattle.laws.specs.Cases.{cut}
@@ -15,7 +15,7 @@ use Rattle.head_state.specs.declared.Head.{Head}
 use Rattle.head_state.specs.declared.Window.{Window}
 use Rattle.head_state.specs.declared.Window.TheVariants.{Idle, Before, Inside}
 use Rattle.lent.specs.Folds.{places, each}
-use Rattle.head_links.specs.Laws.{passed_none, passed-sound, passed-joins}
+use Rattle.head_links.proofs.Laws.{passed_none, passed-sound, passed-joins}
 use Rattle.head_links.specs.Pass.{passed_of}
 use Rattle.head_links.specs.declared.Link.{Link}
 use Rattle.head_survey.specs.Facts.{holds, any_holds, are_all_sound, different, quiet_all}

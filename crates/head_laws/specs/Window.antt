@@ -15,7 +15,7 @@ use Rattle.clock.specs.declared.Reach.{Reach}
 use Rattle.clock.specs.declared.Reach.TheVariants.{Past, Ahead}
 use Rattle.frame_range.specs.Fits.{is_individual}
 use Rattle.head_state.specs.Head.{with_window, tick_of, sound_of, after_of}
-use Rattle.head_state.specs.Laws.{window-tick, window-join}
+use Rattle.head_state.proofs.Laws.{window-tick, window-join}
 use Rattle.head_state.specs.Window.{longest_window, fits, inside_for, opened_at, opened, ticked_window, sound_window, window_after}
 use Rattle.head_state.specs.declared.Head.{Head}
 use Rattle.head_state.specs.declared.Window.{Window}

@@ -1,7 +1,7 @@
 -- The types that go by value: row, machine value, that the row tells it, copies, makes, and that the machine value has the type.
 -- Assumes nothing.
 use Prim.Native.Nat.{ℕ}
-use mathlib.Core.List.{List, [], ◌∷◌}
+use mathlib.Core.List.{[], ◌∷◌}
 use lib.Dec.{T}
 use seplogic.Ra.Ura.{Ura}
 use mir.Val.{Val, has_ty, WT}

@@ -1,4 +1,6 @@
 // One link of the head's table, by value: its states, its timers, and what each of its steps sends.
+#![tactic(auto)]
+
 ghost use Rattle.std.specs.Prelude.{◌≡◌};
 ghost use Rattle.head_links.specs.Link.{idle, waiting_at, registered_at, is_held, is_registered};
 ghost use Rattle.head_links.specs.Pass.{passed_of, quiet_of};
@@ -9,14 +11,14 @@ ghost use Rattle.head_links.specs.Tick.{tick_wait, tick_periodic, tick_watchdog,
 use clock::{Quanta, Timer};
 use frame::{Address, Body, Grants, RegisterFlag};
 
-#[derive(Drop)]
+#[derive(Clone, Copy)]
 pub enum State {
     Idle,
     Waiting,
     Registered,
 }
 
-#[derive(Drop)]
+#[derive(Clone, Copy)]
 pub struct Link {
     pub address: Address,
     pub state: State,
@@ -26,7 +28,7 @@ pub struct Link {
 }
 
 // What is done to a link, once it is judged that it may be.
-#[derive(Drop)]
+#[derive(Clone, Copy)]
 pub enum Change {
     Admit {
         address: Address,
@@ -41,13 +43,13 @@ pub enum Change {
 }
 
 // A frame on its way out, before its octets: to whom, and what it says.
-#[derive(Drop)]
+#[derive(Clone, Copy)]
 pub enum Sent {
     Nothing,
     To(Address, Body),
 }
 
-#[derive(Drop)]
+#[derive(Clone, Copy)]
 pub struct Stepped {
     pub link: Link,
     pub sent: Sent,

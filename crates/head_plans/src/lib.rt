@@ -1,4 +1,6 @@
 // What a call of the head is going to do, before anything is changed.
+#![tactic(auto)]
+
 ghost use Rattle.std.specs.Prelude.{◌≡◌};
 ghost use Rattle.head_plans.specs.Plan.{quiet, refused, accepted, leaping, sending, telling};
 
@@ -9,7 +11,7 @@ use head_links::Sent;
 use head_state::Head;
 use head_table::Event;
 
-#[derive(Drop)]
+#[derive(Clone, Copy)]
 pub enum Kind {
     Nothing,
     Request,
@@ -18,7 +20,7 @@ pub enum Kind {
     Report(Sets),
 }
 
-#[derive(Drop)]
+#[derive(Clone, Copy)]
 pub struct Notice {
     pub kind: Kind,
     pub link: usize,
@@ -26,7 +28,7 @@ pub struct Notice {
 }
 
 // What a call is going to do: its number, the head after it, what is offered to the links, the head's own frame, the notice, and how many ticks an advance makes.
-#[derive(Drop)]
+#[derive(Clone, Copy)]
 pub struct Plan {
     pub reply: Reply,
     pub head: Head,

@@ -1,4 +1,6 @@
 // What the head makes of its client's requests: the tests of each, in their order, and what is to be done.
+#![tactic(auto)]
+
 ghost use Rattle.std.specs.Prelude.{◌≡◌};
 ghost use Rattle.head_requests.specs.Client.{fits_lengths, may_open, open_of, fits_party, admit_of, reject_of, reregister_of, deregister_of, gate_of};
 

@@ -1,4 +1,6 @@
 // The head: its own address, its count and its discovery window.
+#![tactic(auto)]
+
 ghost use Rattle.std.specs.Prelude.{◌≡◌};
 ghost use Rattle.head_state.specs.Head.{begun, with_window, tick_of, sound_of, after_of};
 ghost use Rattle.head_state.specs.Window.{fits, is_idle, is_inside, inside_for, opened, ticked_window, sound_window, inside_after, window_after};
@@ -7,7 +9,7 @@ use clock::{Count, Quanta, Reach, Timer};
 use frame::Address;
 
 // Idle, or waiting for its start with its length kept, or inside.
-#[derive(Drop)]
+#[derive(Clone, Copy)]
 pub enum Window {
     Idle,
     Before { timer: Timer, length: Quanta },
@@ -155,7 +157,7 @@ impl Window {
     }
 }
 
-#[derive(Drop)]
+#[derive(Clone, Copy)]
 pub struct Head {
     pub address: Address,
     pub count: Count,

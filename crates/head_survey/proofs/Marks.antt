@@ -29,7 +29,7 @@ pub place-lt : (a : Address) → place_of a < 251
 unfolding place_of
 place-lt a = omega arith
 
-mark-length : (l : Link) (ms : List ℕ) → length (mark_of l ms) ≡ length ms
+pub mark-length : (l : Link) (ms : List ℕ) → length (mark_of l ms) ≡ length ms
 unfolding mark_of
 mark-length l ms = by-test (is_held l.state) _
   where

@@ -1,5 +1,4 @@
--- Every promise of this crate settles the whole answer; `survey` is walked by hand, so its clause is written out as a claim and checked to be
--- the source's.
+-- Every promise of this crate settles the whole answer; the clause of `survey` is written out as a claim and checked to be the source's.
 -- Assumes nothing.
 use mathlib.Core.Path.{◌≡◌, refl, sym, ◌∙◌}
 use seplogic.Ra.Ura.{Ura}

@@ -1,4 +1,6 @@
 // One pass over the lent table that changes nothing: whether it is sound, and what a call asks of it.
+#![tactic(auto)]
+
 ghost use Rattle.std.specs.Prelude.{◌≡◌, ◌≤◌, length};
 ghost use Rattle.head_survey.specs.Facts.{is_few, holds, facts_of};
 ghost use Rattle.head_survey.specs.Pass.{turns_of, begun, place_of, span_of, mark_of, met_of, repeats_of, sound_still, held_still, idle_still, link_still, quiet_still, seen_of};
@@ -8,14 +10,14 @@ use frame::Address;
 use head_links::Link;
 
 // What a call asks of the table: the link of that number, and whether a link holds that address.
-#[derive(Drop)]
+#[derive(Clone, Copy)]
 pub struct Look {
     pub link: usize,
     pub address: Address,
 }
 
 // What the pass finds: whether the table is sound, whether the address is held, the lowest idle link or 0, the link asked for, and how many ticks come before the one at which a link rings.
-#[derive(Drop)]
+#[derive(Clone, Copy)]
 pub struct Facts {
     pub sound: bool,
     pub held: bool,

@@ -1,5 +1,5 @@
--- Every promise of this crate settles the whole answer, and what then stands in the table and in the output. `drive` and `offer` are walked by
--- hand, so their clauses are written out as claims and checked to be the source's.
+-- Every promise of this crate settles the whole answer, and what then stands in the table and in the output. The clauses of `drive` and
+-- `offer` are written out as claims and checked to be the source's.
 -- Assumes nothing.
 use Prim.Native.Nat.{ℕ}
 use mathlib.Core.Path.{◌≡◌, refl, sym, ap, ◌∙◌}

@@ -1,4 +1,6 @@
 // The lent table and the lent output: one event offered to every link in order, and the frames that come of it.
+#![tactic(auto)]
+
 ghost use Rattle.std.specs.Prelude.{◌≡◌, ◌+◌, ◌<◌, length, get_or, set};
 ghost use Rattle.lent.specs.Folds.{each};
 ghost use Rattle.head_links.specs.Link.{idle};
@@ -10,7 +12,7 @@ use frame::{Address, Message};
 use head_links::{Change, Link, Sent, Stepped};
 
 // What is offered to every link in order.
-#[derive(Drop)]
+#[derive(Clone, Copy)]
 pub enum Event {
     Nothing,
     Clear,
@@ -21,7 +23,7 @@ pub enum Event {
 }
 
 // What every frame of the head carries: its own address and its count.
-#[derive(Drop)]
+#[derive(Clone, Copy)]
 pub struct Sender {
     pub source: Address,
     pub timestamp: Count,
@@ -59,7 +61,7 @@ fn paste(out: &mut [u8], n: usize, frame: [u8; 60]) -> usize
     if n < out.len() / Message::OCTETS {
         let a = n * Message::OCTETS;
         let e = a + Message::OCTETS;
-        bytes::copy(&frame, &mut out[a..e]);
+        out[a..e].copy_from_slice(&frame);
         return n + 1;
     }
     n
