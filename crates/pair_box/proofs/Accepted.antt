@@ -13,7 +13,7 @@ use Rattle.box_calls.specs.Hear.{is_for, heard_of, hear_of}
 use Rattle.box_calls.specs.declared.FloorBox.{FloorBox}
 use Rattle.box_laws.specs.Calls.{step, drift}
 use Rattle.box_laws.specs.Stated.{hear, tick, answer}
-use Rattle.box_laws.specs.Runs.{Holds, holds-sound}
+use Rattle.box_laws.proofs.Runs.{Holds, holds-sound}
 use Rattle.box_laws.specs.Steady.{tick-ok}
 
 module _ (b : FloorBox) (h : Holds b) where

@@ -1,6 +1,6 @@
 -- A call of the box is one of the pair's steps if its own step, should it be accepted, moves the registration as it may.
 -- Assumes nothing.
-use Prim.Native.Nat.{ℕ, ◌^◌, ◌<◌}
+use Prim.Native.Nat.{ℕ}
 use mathlib.Core.Path.{◌≡◌, ap}
 use mathlib.Core.Bool.{Bool}
 use Rattle.frame.specs.Tests.{Passed}
@@ -10,8 +10,9 @@ use Rattle.box_calls.specs.declared.Answer.{Answer}
 use Rattle.box_calls.specs.declared.FloorBox.{FloorBox}
 use Rattle.box_laws.specs.Calls.{tests, step, drift, Outcome, unsound, refuses, accepts}
 use Rattle.box_laws.specs.Stated.{Call, answer, CallTyped}
-use Rattle.box_laws.specs.Frames.{count_after, step_count, call-frames}
-use Rattle.box_laws.specs.Steady.{call-steady}
+use Rattle.box_laws.specs.Frames.{count_after}
+use Rattle.box_laws.proofs.Frames.{step_count, call-frames}
+use Rattle.box_laws.proofs.Steady.{call-steady}
 use Rattle.box_laws.proofs.Activated.{activate-leaves}
 use Rattle.pair_wire.specs.Restarts.{up_restarts}
 use Rattle.pair_demand.specs.Run.{HasRegistered}

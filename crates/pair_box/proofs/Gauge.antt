@@ -20,7 +20,7 @@ use Rattle.box_registration.specs.declared.State.{State}
 use Rattle.box_registration.specs.declared.State.TheVariants.{RegisterReq, Registered}
 use Rattle.box_calls.specs.Box.{fresh_of}
 use Rattle.box_calls.specs.declared.FloorBox.{FloorBox}
-use Rattle.box_laws.specs.Runs.{Holds, run_holds}
+use Rattle.box_laws.proofs.Runs.{Holds, run_holds}
 use Rattle.box_laws.specs.Stated.{fresh}
 use Rattle.pair_demand.specs.Laws.{Gauge}
 use Rattle.pair_box.specs.End.{BoxEnd}

@@ -26,7 +26,7 @@ use Rattle.box_calls.specs.declared.Answer.{Answer}
 use Rattle.box_calls.specs.declared.FloorBox.{FloorBox}
 use Rattle.box_laws.specs.Calls.{step}
 use Rattle.box_laws.specs.Stated.{hear}
-use Rattle.box_laws.specs.Frames.{call-frames}
+use Rattle.box_laws.proofs.Frames.{call-frames}
 use Rattle.pair_wire.specs.Carried.{carries-valid}
 use Rattle.pair_wire.specs.Message.{message_in}
 use Rattle.pair_box.specs.End.{frames_in, BoxEnd}

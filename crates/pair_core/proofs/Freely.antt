@@ -4,7 +4,7 @@ use Prim.Native.Nat.{ℕ}
 use Rattle.clock.specs.Numbers.{watchdog, wait}
 use Rattle.pair_wire.specs.Restarts.{restarts_head, calls_box, down_restarts, up_restarts}
 use Rattle.pair_wire.specs.Message.{restamped}
-use Rattle.pair_wire.specs.Stamped.{restamped-tested}
+use Rattle.pair_wire.proofs.Stamped.{restamped-tested}
 use Rattle.pair_demand.specs.Run.{Holds, HasRegistered}
 use Rattle.pair_demand.specs.Freely.{Free, Freely}
 use Rattle.pair_demand.proofs.Face.{gauge}

@@ -17,10 +17,12 @@ module _ {F : Type 0} where
   behind x (y ∷ l) r m = Memᴰ.tail (behind x l r m)
 
   stamped : (f : F) (fs : List F) (l : List (Aged F)) → Memᴰ f fs → Memᴰ (stamp f) (map stamp fs ++ l)
+  stamped f [] l m = elim m [ ]
   stamped f (g ∷ fs) l (Memᴰ.head e) = Memᴰ.head (ap stamp e)
   stamped f (g ∷ fs) l (Memᴰ.tail m) = Memᴰ.tail (stamped f fs l m)
 
   oldened : (x : Aged F) (l : List (Aged F)) → Memᴰ x l → Memᴰ (olden x) (map olden l)
+  oldened x [] m = elim m [ ]
   oldened x (y ∷ l) (Memᴰ.head e) = Memᴰ.head (ap olden e)
   oldened x (y ∷ l) (Memᴰ.tail m) = Memᴰ.tail (oldened x l m)
 

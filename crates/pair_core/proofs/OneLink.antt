@@ -53,10 +53,10 @@ begun_fresh =
 module _ (s : HeadState) (r : Call) where
   planned-stays : (room : ℕ) (p : Plan) → Outcome s.head s.table r room p → (planned r s.head (known s.table r)).head ≡ s.head
       → p.head ≡ s.head
-  planned-stays room p (unsound f e) q = ap (λ (x : Plan). x.head) e
-  planned-stays room p (short f m e) q = ap (λ (x : Plan). x.head) e
-  planned-stays room p (refuses f m x a b c e) q = ap (λ (x : Plan). x.head) e
-  planned-stays room p (accepts f m t e) q = ap (λ (x : Plan). x.head) e ∙ q
+  planned-stays _ p (unsound f e) q = ap (λ (x : Plan). x.head) e
+  planned-stays _ p (short f m e) q = ap (λ (x : Plan). x.head) e
+  planned-stays _ p (refuses f m x a b c e) q = ap (λ (x : Plan). x.head) e
+  planned-stays _ p (accepts f m t e) q = ap (λ (x : Plan). x.head) e ∙ q
 
   pub head-stays : (planned r s.head (known s.table r)).head ≡ s.head → (asked s r out).next.head ≡ s.head
   unfolding serve_of done_of

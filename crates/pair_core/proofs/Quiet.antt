@@ -16,7 +16,7 @@ use Rattle.frame.specs.declared.Address.{Address}
 use Rattle.frame.specs.declared.Body.TheVariants.{Discovery}
 use Rattle.frame.specs.declared.Grant.{Grant}
 use Rattle.frame.specs.declared.Message.{Message}
-use Rattle.head_links.specs.Link.{idle, is_held}
+use Rattle.head_links.specs.Link.{is_held}
 use Rattle.head_links.specs.declared.Link.{Link}
 use Rattle.head_links.specs.declared.State.{State}
 use Rattle.head_state.specs.Head.{begun, with_window, tick_of}

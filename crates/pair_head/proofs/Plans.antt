@@ -14,6 +14,8 @@ use Rattle.frame.specs.Tests.{Passed}
 use Rattle.frame.specs.declared.Address.{Address}
 use Rattle.head_state.specs.declared.Head.{Head}
 use Rattle.head_links.specs.Link.{is_held, is_registered}
+use Rattle.head_links.specs.declared.Change.{Change}
+use Rattle.head_table.specs.declared.Event.{Event}
 use Rattle.head_links.specs.declared.Link.{Link}
 use Rattle.head_survey.specs.Facts.{is_few, idle_from}
 use Rattle.head_judging.specs.Judge.{look_of}
@@ -28,6 +30,14 @@ use Rattle.pair_head.specs.End.{handed_in}
 use Rattle.pair_head.proofs.Links.{Quiet}
 use Rattle.pair_head.proofs.Messages.{Kept, message-behaves}
 use Rattle.pair_head.proofs.Table.{AllBehave, nothing-behaves, changes-behave}
+
+-- the change that an event is, where it is one
+abbrev change-in : Event → Change
+change-in Event.Nothing = Change.Deregister
+change-in Event.Clear = Change.Deregister
+change-in Event.Tick = Change.Deregister
+change-in (Event.Leap k) = Change.Deregister
+change-in (Event.At k change) = change
 
 module _ (A : Address) where
   -- the head's own frame restarts no watchdog at A, and every link behaves
@@ -45,16 +55,16 @@ module _ (A : Address) where
       let found : j ≢ 0 = eqb-false j 0 (not-true (eqb j 0) t.1.1.0) in
       record {
         lead = tt;
-        links = changes-behave A kept j _ xs (rw e (lowest-idle 1 xs (λ (z : idle_from 1 xs ≡ 0). found (e ∙ z))).idle);
+        links = changes-behave A kept j (Change.Admit a pending sync) xs (rw e (lowest-idle 1 xs (λ (z : idle_from 1 xs ≡ 0). found (e ∙ z))).idle);
       }
   planned-complies {kept} (Call.Reject a pending sync) h xs f n k t = record { lead = λ e. refl; links = nothing-behaves A kept 1 xs }
   planned-complies {kept} (Call.Reregister link sync) h xs f n k t =
       let e = facts-link xs (look_of (Call.Reregister link sync)) f in
-      record { lead = tt; links = changes-behave A kept link _ xs (ap (λ (l : Link). is_registered l.state) (sym e) ∙ t.1.0) }
-  planned-complies {kept} (Call.Deregister link) h xs f n k t = record { lead = tt; links = changes-behave A kept link _ xs tt }
+      record { lead = tt; links = changes-behave A kept link (Change.Reregister sync) xs (ap (λ (l : Link). is_registered l.state) (sym e) ∙ t.1.0) }
+  planned-complies {kept} (Call.Deregister link) h xs f n k t = record { lead = tt; links = changes-behave A kept link Change.Deregister xs tt }
   planned-complies {kept} (Call.Gate link asked) h xs f n k t =
       let e = facts-link xs (look_of (Call.Gate link asked)) f in
-      record { lead = tt; links = changes-behave A kept link _ xs (ap (λ (l : Link). is_held l.state) (sym e) ∙ t.0) }
+      record { lead = tt; links = changes-behave A kept link (change-in (planned (Call.Gate link asked) h (known xs (Call.Gate link asked))).event) xs (ap (λ (l : Link). is_held l.state) (sym e) ∙ t.0) }
   planned-complies {kept} (Call.Hear link m) h xs f n k t =
       let r = Call.Hear link m in
       let l = (known xs r).link in
