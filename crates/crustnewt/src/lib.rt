@@ -1,12 +1,14 @@
 // The C face: the caller keeps a box, or a head and its table, as words in blocks, and lends what a call hands out.
+#![tactic(auto)]
+
 ghost use Rattle.std.specs.Prelude.{◌≡◌};
 ghost use Rattle.face_box_calls.specs.Calls.{left, heard_of, fresh_call, box_call, advance_left, advance_call, next_call};
 ghost use Rattle.face_box_pass.specs.Block.{until_call};
 ghost use Rattle.face_frame_read.specs.Read.{read_left, read_call};
 ghost use Rattle.face_frame_write.specs.Write.{write_left, write_call};
 ghost use Rattle.box_calls.specs.Box.{register_of, deregister_of, report_of, tick_of};
-ghost use Rattle.frame_queues.specs.Asked.{asked_of as setsAsked};
-ghost use Rattle.face_head_calls.specs.Calls.{left as head_left, begun_left, served_of, heard_of as headHeard, begun_of, advance_left as headAdvanceLeft, advance_call as head_advance};
+ghost use Rattle.frame_queues.specs.Asked.{asked_of as sets_asked};
+ghost use Rattle.face_head_calls.specs.Calls.{left as head_left, begun_left, served_of, heard_of as head_heard, begun_of, advance_left as head_advance_left, advance_call as head_advance};
 ghost use Rattle.face_head_pass.specs.Quiet.{until_call as head_until};
 ghost use Rattle.face_head_calls.specs.Gate.{asked_of};
 ghost use Rattle.head_judging.specs.declared.Call.{Call as Called};
@@ -61,7 +63,7 @@ pub extern "C" fn crustnewt_box_report(
     frames: &mut [u8],
     reply: &mut [u64],
 ) -> u8
-    ensures { left result block.new frames.new reply.new ≡ box_call (report_of (setsAsked number sets.now)) block.old frames.old reply.old }
+    ensures { left result block.new frames.new reply.new ≡ box_call (report_of (sets_asked number sets.now)) block.old frames.old reply.old }
 {
     face_box_calls::report(number, sets, block, frames, reply)
 }
@@ -296,7 +298,7 @@ pub extern "C" fn crustnewt_head_hear(
     output: &mut [u8],
     reply: &mut [u64],
 ) -> u8
-    ensures { head_left result head.new links.new output.new reply.new ≡ headHeard link octets.now head.old links.old output.old reply.old }
+    ensures { head_left result head.new links.new output.new reply.new ≡ head_heard link octets.now head.old links.old output.old reply.old }
 {
     face_head_calls::heard(link, octets, head, links, output, reply)
 }
@@ -324,7 +326,7 @@ pub extern "C" fn crustnewt_head_advance(
     reply: &mut [u64],
     made: &mut [u64],
 ) -> u8
-    ensures { headAdvanceLeft (head_left result head.new links.new output.new reply.new) made.new ≡ head_advance ticks head.old links.old output.old reply.old made.old }
+    ensures { head_advance_left (head_left result head.new links.new output.new reply.new) made.new ≡ head_advance ticks head.old links.old output.old reply.old made.old }
 {
     face_head_calls::advance(ticks, head, links, output, reply, made)
 }

@@ -1,4 +1,6 @@
 // A box as words of 64 bits, which is how the C face keeps it in the caller's memory, and a box's answer as words.
+#![tactic(auto)]
+
 ghost use Rattle.std.specs.Prelude.{◌≡◌, map, drop};
 ghost use Rattle.face_box.specs.Box.{state_word, state_of, registration_of, phase_words, discovery_of, phase_of, light_of, front_words, front_of, boxed, is_clear, has_words, box_words, nobody, box_in};
 ghost use Rattle.face_box.specs.Listing.{list_of};
@@ -17,7 +19,7 @@ use clock::Count;
 use frame::Address;
 
 // A phase of the transmitter: its number, what it holds of a grant, and the sync held.
-#[derive(Drop)]
+#[derive(Clone, Copy)]
 pub struct PhaseWords {
     pub phase: u64,
     pub grant: u64,
@@ -25,7 +27,7 @@ pub struct PhaseWords {
 }
 
 // A notice: its kind and, of a grant that was taken, start, length and force bit.
-#[derive(Drop)]
+#[derive(Clone, Copy)]
 pub struct NoticeWords {
     pub kind: u64,
     pub start: u64,
@@ -34,7 +36,7 @@ pub struct NoticeWords {
 }
 
 // What stands before the list's grants: all that a tick moves when nothing happens at it.
-#[derive(Drop)]
+#[derive(Clone, Copy)]
 pub struct Front {
     pub address: Address,
     pub count: Count,

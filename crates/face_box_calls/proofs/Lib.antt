@@ -1,5 +1,4 @@
 -- What the proofs of several functions use, and what the promises settle.
-mod Laid
 mod Lent
 mod Passing
 pub mod Settled

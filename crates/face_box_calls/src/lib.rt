@@ -1,4 +1,6 @@
 // The box's calls over words in the caller's memory: the box is taken from them, and laid back where a call is done.
+#![tactic(auto)]
+
 ghost use Rattle.std.specs.Prelude.{◌≡◌, ◌≤◌, length, ◌&&◌, [], ◌∷◌, leb};
 ghost use Rattle.face_box_calls.specs.Advancing.{advanced_of};
 ghost use Rattle.face_box_calls.specs.Calls.{told, left, is_lent, heard_of, laid_one, laid_both, laid_frames, told_of, handed, settled, fresh_call, box_call, advance_left, advance_call, next_call};
@@ -47,15 +49,15 @@ fn lay_both(first: [u8; 60], second: [u8; 60], frames: &mut [u8])
     requires { 120 ≤ length frames.old }
     ensures { frames.new ≡ laid_both first second frames.old }
 {
-    bytes::copy(&first, frames);
-    bytes::copy(&second, &mut frames[60..]);
+    frames[..60].copy_from_slice(&first);
+    frames[60..120].copy_from_slice(&second);
 }
 
 fn lay_one(first: [u8; 60], frames: &mut [u8])
     requires { 60 ≤ length frames.old }
     ensures { frames.new ≡ laid_one first frames.old }
 {
-    bytes::copy(&first, frames);
+    frames[..60].copy_from_slice(&first);
 }
 
 // The frames that are handed out, the second after the first; octets that no frame takes stay.

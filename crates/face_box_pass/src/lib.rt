@@ -1,5 +1,7 @@
 // The box's quiet ticks over its words where they lie in the caller's memory: how many are sure, and so many of them made. No box is taken
 // from the words, and only those that move are written.
+#![tactic(auto)]
+
 ghost use Rattle.std.specs.Prelude.{◌≡◌, ◌+◌, ◌%◌, ◌≤◌, length, drop, take};
 ghost use Rattle.face_box.specs.Box.{is_clear};
 ghost use Rattle.face_box_pass.specs.Block.{until_call};

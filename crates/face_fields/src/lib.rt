@@ -1,5 +1,7 @@
 // A word of 64 bits as a field. One that is too large for the field is taken as its largest, which packs to another word; of a grant every word is
 // one.
+#![tactic(auto)]
+
 ghost use Rattle.std.specs.Prelude.{◌≡◌};
 ghost use Rattle.face_fields.specs.Fields.{short_of, count_of, quanta_of, timer_of, span_word, span_of};
 

@@ -1,4 +1,6 @@
 // Reading a frame: octets straight into the words of its message.
+#![tactic(auto)]
+
 ghost use Rattle.std.specs.Prelude.{◌≡◌, [], ◌∷◌, ◌+◌, ◌≤◌, ◌<◌, ◌^◌, leb, length, drop};
 ghost use Rattle.octets.specs.Octets.{field_of};
 ghost use Rattle.frame.specs.Reading.{one_of, gate_in_range};

@@ -1,6 +1,6 @@
 -- What each kind lays out is what the page answers: the writer's frame of the message that the words are the words of.
 -- Assumes nothing.
-use Prim.Native.Nat.{ℕ, zero, suc, ◌+◌, ◌-◌, ◌*◌, ◌/◌, ◌%◌, ◌^◌, ◌≤◌, min}
+use Prim.Native.Nat.{ℕ, zero, suc, ◌+◌, ◌-◌, ◌*◌, ◌≤◌, min}
 use mathlib.Core.Path.{◌≡◌, refl, sym, ap, ◌∙◌}
 use mathlib.Core.Bool.{Bool, true, false, cond, ◌||◌, true≢false}
 use mathlib.Core.Logic.{⊎_elim}
@@ -11,7 +11,8 @@ use lib.Dec.{eqb, leb}
 use lib.ListN.{length, take, drop, replicate}
 use Rattle.laws.specs.Cases.{decided, either}
 use Rattle.octets.specs.Octets.{onto, bytes}
-use Rattle.frame_queues.specs.Laws.{cut-is, fits_cut, padded-forty, forty-length}
+use Rattle.frame_queues.proofs.Fitting.{fits_cut}
+use Rattle.frame_queues.specs.Laws.{cut-is, padded-forty, forty-length}
 use Rattle.frame_queues.specs.Asked.{padded}
 use Rattle.frame_queues.specs.Queues.{used_of, forty_of, fits_sets}
 use Rattle.frame_queues.specs.declared.Sets.{Sets}

@@ -6,7 +6,8 @@ use mathlib.Core.Bool.{Bool, and-true}
 use mathlib.Core.List.{List, [], ◌++◌}
 use lib.ListN.{take, drop}
 use Rattle.octets.specs.Octets.{onto}
-use Rattle.frame_queues.specs.Laws.{none-fit, fit-sets}
+use Rattle.frame_queues.proofs.Fitting.{fit-sets}
+use Rattle.frame_queues.specs.Laws.{none-fit}
 use Rattle.frame_queues.specs.Queues.{used_of, forty_of, no_sets, ends_at, fits_sets}
 use Rattle.frame_queues.specs.declared.Sets.{Sets}
 use Rattle.frame.specs.Layout.{frame_of}

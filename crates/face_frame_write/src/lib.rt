@@ -1,4 +1,6 @@
 // Writing a frame: the words of a message straight into octets.
+#![tactic(auto)]
+
 ghost use Rattle.std.specs.Prelude.{◌≡◌, cond, eqb, [], ◌∷◌, ◌++◌, ◌+◌, ◌≤◌, length, take, drop, replicate};
 ghost use Rattle.octets.specs.Octets.{bytes};
 ghost use Rattle.frame.specs.Layout.{frame_of};

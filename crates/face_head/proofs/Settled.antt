@@ -1,5 +1,5 @@
--- Every promise of this crate settles the whole answer, and what `load_links`, `store_links` and `tell` leave in what is lent; the first two are
--- walked by hand, so their clauses are written out as claims and checked to be the source's.
+-- Every promise of this crate settles the whole answer, and what `load_links`, `store_links` and `tell` leave in what is lent; the clauses of the
+-- first two are written out as claims and checked to be the source's.
 -- Assumes nothing.
 use mathlib.Core.Path.{◌≡◌, refl, sym, ◌∙◌}
 use seplogic.Ra.Ura.{Ura}

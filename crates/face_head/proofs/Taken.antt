@@ -9,7 +9,7 @@ use native.Mathlib.Omega.{arith}
 use lib.ListN.{length, take, drop, get_or, set, length-append, length-drop}
 use lib.Seq.{length-take-le}
 use Rattle.head_links.specs.declared.Link.{Link}
-use Rattle.face_head.specs.Laws.{length-links, length-table, load-turn, store-turn}
+use Rattle.face_head.proofs.Laws.{length-links, length-table, load-turn, store-turn}
 use Rattle.face_head.specs.Table.{link_words, link_in, five, words_at, table_words, links_of, room_of, loaded, stored}
 
 -- there is room for each of them

@@ -1,4 +1,3 @@
 pub mod Head
-pub mod Laws
 pub mod Table
 pub mod Told

@@ -1,4 +1,6 @@
 // A head, its table of links and its answer as words of 64 bits, which is how the C face keeps them in the caller's memory.
+#![tactic(auto)]
+
 ghost use Rattle.std.specs.Prelude.{◌≡◌, ◌+◌, ◌≤◌, min, ◌++◌, length, take, drop};
 ghost use Rattle.face_head.specs.Head.{window_words, window_of, head_words, head_of, head_in};
 ghost use Rattle.face_head.specs.Table.{state_word, state_of, link_words, link_of, no_link, five, link_in, words_at, links_in, room_of, loaded, stored};
@@ -17,14 +19,14 @@ use head_state::{Head, Window};
 const LINK: usize = 5;
 
 // The discovery window: its phase, the ticks left, and the length that it keeps.
-#[derive(Drop)]
+#[derive(Clone, Copy)]
 pub struct WindowWords {
     pub phase: u64,
     pub left: u64,
     pub length: u64,
 }
 
-#[derive(Drop)]
+#[derive(Clone, Copy)]
 pub struct LinkWords {
     pub address: u64,
     pub state: u64,

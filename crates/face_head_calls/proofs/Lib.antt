@@ -1,4 +1,2 @@
-mod Calls
 pub mod Settled
-mod Values
 mod Words

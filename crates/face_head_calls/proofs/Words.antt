@@ -22,7 +22,7 @@ use Rattle.head_laws.specs.Passing.{passed_all}
 use Rattle.face_head_pass.specs.Passed.{passed_head, passed_links}
 use Rattle.face_head_pass.specs.Quiet.{head_at, until_call}
 use Rattle.face_head_pass.proofs.Passing.{quietly, pass-leaves}
-use Rattle.face_head.specs.Laws.{links-few, length-links, length-table}
+use Rattle.face_head.proofs.Laws.{links-few, length-links, length-table}
 use Rattle.face_head.specs.Table.{table_words, links_of, links_in, links_at, room_of, loaded, stored}
 use Rattle.face_head.specs.Told.{told_words, notice_words}
 use Rattle.head_judging.specs.Judge.{has_room}

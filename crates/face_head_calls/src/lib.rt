@@ -1,4 +1,6 @@
 // The head's calls over words in the caller's memory: head and table are taken from them, and laid back where a call is done.
+#![tactic(auto)]
+
 ghost use Rattle.std.specs.Prelude.{◌≡◌, ◌≤◌, get_or, replicate};
 ghost use Rattle.face_head_calls.specs.Answered.{answer_left, told_of, answered_of, quiet_by};
 ghost use Rattle.face_head_calls.specs.Calls.{left, begun_left, advance_left, told, is_lent, laid_head, kept_head, begun_head, refused_of, served_of, heard_of, begun_of, advanced_of, advance_call};

@@ -14,7 +14,7 @@ use lib.Seq.{get_or-drop}
 use Rattle.laws.specs.Cases.{cut}
 use Rattle.clock.specs.Numbers.{furthest_advance, watchdog, periodic, wait}
 use Rattle.frame.specs.declared.Address.{Address}
-use Rattle.face_head.specs.Laws.{links-few, length-links, links-more}
+use Rattle.face_head.proofs.Laws.{links-few, length-links, links-more}
 use Rattle.face_head.specs.Table.{link_in, links_of, links_in, links_at}
 use Rattle.face_head.specs.declared.LinkWords.{LinkWords}
 use Rattle.head_links.specs.Link.{is_held}

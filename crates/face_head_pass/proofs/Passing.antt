@@ -13,7 +13,7 @@ use Rattle.clock.specs.Timers.{passed_of as timer_passed}
 use Rattle.head_state.specs.Head.{sound_of, after_of}
 use Rattle.head_laws.specs.Passing.{passed_all, passed_length}
 use Rattle.face_head.specs.Head.{head_words}
-use Rattle.face_head.specs.Laws.{links-few, length-links, links-more, length-table, table_more}
+use Rattle.face_head.proofs.Laws.{links-few, length-links, links-more, length-table, table_more}
 use Rattle.face_head.specs.Table.{link_words, five, link_in, table_words, words_at, links_of, links_in, links_at}
 use Rattle.face_head.specs.declared.LinkWords.{LinkWords}
 use Rattle.head_links.specs.Pass.{passed_of}

@@ -12,7 +12,7 @@ use lib.Dec.{eqb}
 use lib.ListN.{length, drop, get_or, set, length-set, length-append, length-take, length-drop}
 use lib.Seq.{get_or-set_same, get_or-set_other, set-get_or, get_or-drop}
 use Rattle.laws.specs.Cases.{cut}
-use Rattle.face_head.specs.Laws.{stored_there}
+use Rattle.face_head.proofs.Laws.{stored_there}
 use Rattle.face_head.specs.Table.{words_at}
 use Rattle.face_head.specs.declared.LinkWords.{LinkWords}
 use Rattle.face_head_pass.specs.Judge.{fits, near, still, link_words_at, address_at, nearest_to, still_to, place_of, holds_to, repeats_at, spotted, differ_to}

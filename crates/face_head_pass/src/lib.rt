@@ -1,5 +1,7 @@
 // The head's quiet ticks in place: the words of a head and of its links are judged where they stand in the caller's memory, and only those
 // that move are written.
+#![tactic(auto)]
+
 ghost use Rattle.std.specs.Prelude.{◌≡◌, ◌+◌, ◌*◌, ◌≤◌, ◌<◌, leb, length, drop, get_or, set, replicate};
 ghost use Rattle.face_head_pass.specs.Passed.{passed_at, passed_head, passed_links};
 ghost use Rattle.face_head_pass.specs.Judge.{fits, near, still, nearest_to, still_to, place_of, holds_to, spotted, differ_to, window_fits, head_fits, quiet_links};

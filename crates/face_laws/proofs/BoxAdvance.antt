@@ -20,7 +20,7 @@ use Rattle.box_calls.specs.declared.Advanced.{Advanced}
 use Rattle.box_calls.specs.declared.Answer.{Answer}
 use Rattle.box_calls.specs.declared.FloorBox.{FloorBox}
 use Rattle.box_laws.specs.Stated as core
-use Rattle.box_laws.specs.Calls.{refused-unchanged}
+use Rattle.box_laws.proofs.Refused.{refused-unchanged}
 use Rattle.box_laws.specs.Stated.{Unchanged}
 use Rattle.box_laws.specs.Outcome.{Outcome, unsound, beyond, refuses, makes, outcome}
 use Rattle.face_words.specs.Words.{laid}

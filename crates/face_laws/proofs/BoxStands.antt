@@ -23,7 +23,8 @@ use Rattle.box_calls.specs.Send.{fits_in, send_of}
 use Rattle.box_calls.specs.declared.Answer.{Answer}
 use Rattle.box_calls.specs.declared.FloorBox.{FloorBox}
 use Rattle.box_laws.specs.Stated as core
-use Rattle.box_laws.specs.Calls.{Outcome, unsound, refuses, accepts, outcome, refused-unchanged}
+use Rattle.box_laws.specs.Calls.{Outcome, unsound, refuses, accepts, outcome}
+use Rattle.box_laws.proofs.Refused.{refused-unchanged}
 use Rattle.box_laws.specs.Stated.{Call, answer, Unchanged}
 use Rattle.face_words.specs.Laws.{same-is}
 use Rattle.face_words.specs.Words.{same}

@@ -16,7 +16,7 @@ use Rattle.clock.specs.Numbers.{furthest_advance, is_in_reach, watchdog, periodi
 use Rattle.clock.specs.Timers.{off, runs, quiet_of as timer_quiet}
 use Rattle.clock.specs.declared.Timer.{Timer}
 use Rattle.frame_range.specs.Fits.{is_individual}
-use Rattle.box_light.specs.Laws.{rests-is}
+use Rattle.box_light.proofs.Laws.{rests-is}
 use Rattle.box_light.specs.Light.{rests, is_at_rest}
 use Rattle.box_light.specs.Pass.{quiet_of as light_quiet}
 use Rattle.box_light.specs.declared.Phase.{Phase}

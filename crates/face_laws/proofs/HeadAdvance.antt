@@ -21,7 +21,7 @@ use Rattle.head_judging.specs.declared.Call.{Call}
 use Rattle.head_calls.specs.Serve.{Served, serve_of}
 use Rattle.head_laws.specs.Refusals.{call-reply, refused-unchanged}
 use Rattle.face_words.specs.Words.{laid}
-use Rattle.face_head.specs.Laws.{length-links}
+use Rattle.face_head.proofs.Laws.{length-links}
 use Rattle.face_head.specs.Table.{links_in, links_at}
 use Rattle.face_head_calls.specs.Calls.{AdvanceLeft, left, advance_left, head_at, is_lent, kept_head, kept_links, handed, served_of, advanced_of, advance_call}
 use Rattle.face_laws.specs.Advance.{head_left, HeadAdvance}

@@ -24,7 +24,7 @@ use Rattle.head_laws.specs.Refusals.{call-reply, refused-unchanged}
 use Rattle.head_laws.specs.Stated.{telling}
 use Rattle.head_laws.specs.Sound.{call_length}
 use Rattle.face_head.specs.Head.{head_words, head_in}
-use Rattle.face_head.specs.Laws.{links-few, length-links, length-table, told-few}
+use Rattle.face_head.proofs.Laws.{links-few, length-links, length-table, told-few}
 use Rattle.face_head.specs.Table.{table_words, links_of, links_in, links_at}
 use Rattle.face_head.specs.Told.{told_words}
 use Rattle.head_judging.specs.declared.Call.{Call}

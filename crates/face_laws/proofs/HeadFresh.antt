@@ -20,7 +20,7 @@ use Rattle.head_calls.specs.Fresh.{Freshly, fresh_of}
 use Rattle.head_laws.specs.Fresh.{fresh-unsound, fresh-range, fresh-done}
 use Rattle.face_words.specs.Words.{laid}
 use Rattle.face_head.specs.Head.{head_words}
-use Rattle.face_head.specs.Laws.{length-links}
+use Rattle.face_head.proofs.Laws.{length-links}
 use Rattle.face_head.specs.Table.{table_words}
 use Rattle.face_head.specs.Told.{notice_words, told_words}
 use Rattle.face_head_calls.specs.Calls.{BegunLeft, begun_left, is_lent, laid_head, kept_links, begun_head, cleared, begun_of}

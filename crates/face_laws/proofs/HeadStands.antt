@@ -33,7 +33,7 @@ use Rattle.face_head.specs.Head.{window_of, head_words, head_of, is_head, nobody
 use Rattle.face_head.specs.declared.WindowWords.{WindowWords}
 use Rattle.face_head.specs.Table.{link_words, link_of, five, is_link, no_link, link_in, words_at, table_words, links_of, links_in, links_at}
 use Rattle.face_head.specs.declared.LinkWords.{LinkWords}
-use Rattle.face_head.specs.Laws.{links-few, length-links}
+use Rattle.face_head.proofs.Laws.{links-few, length-links}
 use Rattle.face_head_calls.specs.Calls.{Left, head_at, is_lent, handed, refused_of, served_of, heard_of}
 use Rattle.face_laws.specs.Head.{WindowFits, HeadFits, LinkFits, LinksFit, Stand, HeadJudged, HeadReads, HeadRepacked}
 use Rattle.face_laws.proofs.HeadTrip.{head-back, table-back}

@@ -27,7 +27,7 @@ use Rattle.head_laws.specs.Advance.{Ready, leap_of, reach, tick-told, serve-adva
 use Rattle.head_laws.specs.Advanced.{still_at, again, is_silent, is_none, with_made}
 use Rattle.head_laws.specs.Refusals.{call-reply, call-accepted}
 use Rattle.face_words.specs.Words.{laid}
-use Rattle.face_head.specs.Laws.{length-links}
+use Rattle.face_head.proofs.Laws.{length-links}
 use Rattle.face_head.specs.Table.{links_in, links_at}
 use Rattle.face_head.specs.Told.{notice_words, told_words}
 use Rattle.face_head_calls.specs.Calls.{Left, AdvanceLeft, advance_left, head_at, handed, served_of, advance_call, quiet_of, until_call}

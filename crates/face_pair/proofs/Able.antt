@@ -28,7 +28,7 @@ use Rattle.head_laws.specs.Events.{table-parts}
 use Rattle.head_laws.specs.Runs.{run_sound}
 use Rattle.pair_wire.specs.Carried.{octets-of}
 use Rattle.pair_wire.specs.Message.{are_octets, message_in, stamped}
-use Rattle.pair_wire.specs.Stamped.{stamped-octets}
+use Rattle.pair_wire.proofs.Stamped.{stamped-octets}
 use Rattle.pair_demand.specs.Run.{Answer, End}
 use Rattle.pair_demand.specs.Face.{Face}
 use Rattle.pair_demand.specs.Faithful.{As, Untouched}
@@ -40,7 +40,7 @@ use Rattle.pair_head.specs.End as head-end
 use Rattle.pair_head.specs.End.{HeadEnd}
 use Rattle.pair_head.proofs.Fresh.{fresh-run}
 use Rattle.face_head.specs.Table.{links_in, links_at}
-use Rattle.face_head.specs.Laws.{length-links}
+use Rattle.face_head.proofs.Laws.{length-links}
 use Rattle.face_head_calls.specs.Calls as headface
 use Rattle.face_laws.proofs.HeadCalls.{fresh-length}
 use Rattle.head_survey.specs.Facts.{is_few}

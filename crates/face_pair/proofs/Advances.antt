@@ -7,7 +7,7 @@ use borrow.Author.Tests.{le-leb}
 use lib.ListN.{length}
 use Rattle.clock.specs.Numbers.{watchdog, wait}
 use Rattle.frame.specs.declared.Address.{Address}
-use Rattle.face_head.specs.Laws.{length-links}
+use Rattle.face_head.proofs.Laws.{length-links}
 use Rattle.face_head.specs.Table.{links_in, links_at}
 use Rattle.pair_demand.specs.Run.{last}
 use Rattle.pair_demand.proofs.Advance.{Made, reads, seen-demand}

@@ -26,14 +26,15 @@ use Rattle.box_calls.specs.Box.{fresh_of}
 use Rattle.box_calls.specs.declared.Answer.{Answer}
 use Rattle.box_calls.specs.declared.FloorBox.{FloorBox}
 use Rattle.box_laws.specs.Stated as calls
-use Rattle.box_laws.specs.Calls.{Outcome, unsound, refuses, accepts, outcome, refused-unchanged}
+use Rattle.box_laws.specs.Calls.{Outcome, unsound, refuses, accepts, outcome}
+use Rattle.box_laws.proofs.Refused.{refused-unchanged}
 use Rattle.box_laws.specs.Stated.{Call, answer, CallTyped}
 use Rattle.face_words.specs.Laws.{laid-whole}
 use Rattle.face_words.specs.Words.{laid}
 use Rattle.pair_wire.specs.Carried.{octets-of, carries-valid}
 use Rattle.pair_wire.specs.Message.{are_octets, message_in, stamped}
 use Rattle.pair_wire.specs.Restarts.{calls_box, down_restarts}
-use Rattle.pair_wire.specs.Stamped.{stamped-octets, stamped-tested}
+use Rattle.pair_wire.proofs.Stamped.{stamped-octets, stamped-tested}
 use Rattle.pair_demand.specs.Run as run
 use Rattle.pair_demand.specs.Faithful.{As, Untouched, Does, does, spares, begins, Hears, hears, misses, Faithful}
 use Rattle.pair_demand.proofs.Face.{unchanged}

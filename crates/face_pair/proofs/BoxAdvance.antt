@@ -26,7 +26,7 @@ use Rattle.box_calls.specs.declared.Advanced.{Advanced}
 use Rattle.box_calls.specs.declared.Answer.{Answer}
 use Rattle.box_calls.specs.declared.FloorBox.{FloorBox}
 use Rattle.box_laws.specs.Stated as calls
-use Rattle.box_laws.specs.Runs.{holds-sound}
+use Rattle.box_laws.proofs.Runs.{holds-sound}
 use Rattle.face_words.specs.Words.{laid}
 use Rattle.pair_demand.specs.Run as run
 use Rattle.pair_demand.specs.Singly.{untold, Alike, Singly}

@@ -22,7 +22,7 @@ use Rattle.box_grants.specs.Laws.{Packs, packs-list}
 use Rattle.box_grants.specs.Listed.{list_of}
 use Rattle.box_grants.specs.Sound.{in_range, sound_of as list_sound}
 use Rattle.box_grants.specs.declared.GrantList.{GrantList}
-use Rattle.box_light.specs.Laws.{fits_in, served-in}
+use Rattle.box_light.proofs.Laws.{fits_in, served-in}
 use Rattle.box_light.specs.Light.{laser_on_for}
 use Rattle.box_light.specs.Sound.{wait_fits, served, sound_in as phase_sound}
 use Rattle.box_light.specs.declared.Phase.{Phase}

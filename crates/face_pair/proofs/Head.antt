@@ -34,7 +34,7 @@ use Rattle.face_words.specs.Laws.{laid-over, laid-whole}
 use Rattle.face_words.specs.Words.{laid}
 use Rattle.pair_wire.specs.Message.{are_octets, message_in, stamped}
 use Rattle.pair_wire.specs.Restarts.{restarts_head, up_restarts}
-use Rattle.pair_wire.specs.Stamped.{stamped-octets, stamped-tested}
+use Rattle.pair_wire.proofs.Stamped.{stamped-octets, stamped-tested}
 use Rattle.pair_demand.specs.Faithful.{As, Untouched, Does, does, spares, begins, Hears, misses, Faithful}
 use Rattle.pair_demand.specs.Faithful as face
 use Rattle.pair_demand.proofs.Face.{unchanged}
@@ -42,12 +42,12 @@ use Rattle.pair_head.specs.End as end
 use Rattle.pair_head.specs.End.{HeadState, frames_in, HeadEnd}
 use Rattle.pair_head.proofs.Fresh.{fresh-run}
 use Rattle.face_head.specs.Head.{head_words}
-use Rattle.face_head.specs.Laws.{links-few, length-links, length-table}
+use Rattle.face_head.proofs.Laws.{links-few, length-links, length-table}
 use Rattle.face_head.specs.Table.{table_words, links_in, links_at}
 use Rattle.face_head_calls.specs.Calls.{Left, left, BegunLeft, begun_left, head_at, is_lent, laid_head, kept_head, kept_links, begun_head, handed, served_of, refused_of, heard_of, cleared, begun_of}
 use Rattle.face_laws.proofs.HeadCalls as trip
 use Rattle.face_laws.proofs.HeadCalls.{fresh-length, is-handed, left_there, told-number}
-use Rattle.face_pair.specs.Head.{Words, state_at, Lent, Asked, asks, hears, fresh, again, moves, moved, Heard, sent_in, answered, begun, served, heard, asked, Fair, HeadFace}
+use Rattle.face_pair.specs.Head.{Words, state_at, Lent, Asked, asks, hears, fresh, again, moves, moved, Heard, sent_in, answered, begun, served, asked, Fair, HeadFace}
 use Rattle.face_pair.proofs.HeadFits.{head-fits, links-fit}
 use Rattle.face_pair.proofs.Laid.{length-laid, laid-again}
 

@@ -39,7 +39,7 @@ use Rattle.pair_demand.specs.Singly.{untold, Alike, Singly}
 use Rattle.pair_demand.proofs.Small.{carried}
 use Rattle.pair_head.specs.End.{HeadState, frames_in, link_at}
 use Rattle.face_head.specs.Head.{head_words}
-use Rattle.face_head.specs.Laws.{links-few, length-links, length-table}
+use Rattle.face_head.proofs.Laws.{links-few, length-links, length-table}
 use Rattle.face_head.specs.Table.{table_words, links_in, links_at}
 use Rattle.face_head_calls.specs.Calls.{Left, AdvanceLeft, advance_left, head_at, is_lent, laid_head, kept_head, kept_links, handed}
 use Rattle.face_laws.proofs.HeadAdvance.{as-request, as_short, as-handed, narrow, far}

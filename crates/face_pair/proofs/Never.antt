@@ -25,7 +25,7 @@ use Rattle.box_calls.specs.declared.FloorBox.{FloorBox}
 use Rattle.box_laws.specs.Stated as calls
 use Rattle.box_laws.specs.Calls.{Outcome, unsound, refuses, accepts, outcome}
 use Rattle.box_laws.specs.Stated.{Call, answer}
-use Rattle.box_laws.specs.Runs.{holds-sound}
+use Rattle.box_laws.proofs.Runs.{holds-sound}
 use Rattle.head_laws.specs.Fresh.{fresh-range, fresh-done}
 use Rattle.head_laws.specs.Runs.{run-never-unsound}
 use Rattle.pair_wire.specs.Message.{are_octets, stamped}

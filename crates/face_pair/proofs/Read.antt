@@ -2,7 +2,7 @@
 -- Assumes nothing.
 use Prim.Native.Nat.{ℕ, zero, suc, ◌+◌, ◌*◌, ◌<◌}
 use mathlib.Core.Path.{◌≡◌, refl, sym, ap, subst, ◌∙◌}
-use mathlib.Core.Bool.{true, false, false≢true}
+use mathlib.Core.Bool.{Bool, true, false, cond, false≢true}
 use mathlib.Core.List.{List, [], ◌∷◌, ◌++◌}
 use mathlib.Core.Logic.{◌≢◌, ⊎_elim}
 use native.Mathlib.Omega.{arith}
@@ -21,7 +21,7 @@ use Rattle.head_links.specs.declared.State.TheVariants.{Idle, Waiting, Registere
 use Rattle.head_survey.specs.Facts.{link_from}
 use Rattle.face_box.specs.Box as bw
 use Rattle.face_words.specs.Laws.{laid-whole}
-use Rattle.face_head.specs.Laws.{length-links}
+use Rattle.face_head.proofs.Laws.{length-links}
 use Rattle.face_head.specs.Table.{state_word, link_words, five, links_in, links_at, table_words}
 use Rattle.pair_box.specs.End as end
 use Rattle.pair_head.specs.End.{link_at, HeadEnd}
@@ -111,7 +111,13 @@ link-stands (x ∷ xs) (suc i) j h =
     let one : 5 * suc i ≡ 5 + 5 * i = omega arith in
     let two : 5 + 5 * i + 1 ≡ 5 + (5 * i + 1) = omega arith in
     let k = link-stands xs i (suc j) (omega arith) in
-    rw (other, on, one, two, further x (table_words xs) (5 * i), further x (table_words xs) (5 * i + 1)) k
+    let same : link_from (j + suc i) j (x ∷ xs) ≡ link_from (suc j + i) (suc j) xs =
+    ap (λ (b : Bool). cond b x (link_from (j + suc i) (suc j) xs)) other ∙ ap (λ (n : ℕ). link_from n (suc j) xs) on in
+    subst (λ (l : Link). Stands (table_words (x ∷ xs)) (suc i) l) (sym same) (
+      ap (λ (n : ℕ). get_or (table_words (x ∷ xs)) n 0) one ∙ further x (table_words xs) (5 * i) ∙ k.0,
+      ap (λ (n : ℕ). get_or (table_words (x ∷ xs)) (n + 1) 0) one ∙ ap (λ (n : ℕ). get_or (table_words (x ∷ xs)) n 0) two
+          ∙ further x (table_words xs) (5 * i + 1) ∙ k.1,
+    )
 
 -- a number whose link is held is a place's
 found : (xs : List Link) (n j : ℕ) → is_held (link_from n j xs).state ≡ true → (i : ℕ) × (n ≡ j + i) × (i < length xs)

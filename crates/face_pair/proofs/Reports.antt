@@ -9,7 +9,7 @@ use mathlib.Core.Logic.{⊎_elim}
 use Rattle.laws.specs.Cases.{decided}
 use Rattle.frame_queues.specs.Asked.{asked_of}
 use Rattle.frame_queues.specs.Asking.{fit-asked, unfit-fits, unfit-asked}
-use Rattle.frame_queues.specs.Laws.{sets-fit}
+use Rattle.frame_queues.proofs.Fitting.{sets-fit}
 use Rattle.frame_queues.specs.Queues.{SetsTyped, fits_sets}
 use Rattle.frame_queues.specs.declared.Sets.{Sets}
 use Rattle.box_calls.specs.Box.{report_of}

@@ -24,10 +24,10 @@ use Rattle.box_calls.specs.Hear.{hear_of}
 use Rattle.box_calls.specs.declared.Advanced.{Advanced}
 use Rattle.box_calls.specs.declared.Answer.{Answer}
 use Rattle.box_calls.specs.declared.FloorBox.{FloorBox}
-use Rattle.box_laws.specs.Advance.{run-advance}
+use Rattle.box_laws.proofs.Advance.{run-advance}
 use Rattle.box_laws.specs.Stated as box-calls
 use Rattle.box_laws.specs.Stated.{Call, answer, CallTyped}
-use Rattle.box_laws.specs.Runs as core
+use Rattle.box_laws.proofs.Runs as core
 use Rattle.head_judging.specs.declared.Call.{Call as HeadCall}
 use Rattle.head_laws.specs.Fresh.{fresh-done}
 use Rattle.head_calls.specs.Fresh.{Freshly}

@@ -12,7 +12,7 @@ use Rattle.octets.specs.Laws.{bytes-field, join}
 use Rattle.octets.specs.Octets.{field_of}
 use Rattle.pair_wire.specs.Carried.{octets-of}
 use Rattle.pair_wire.specs.Message.{are_octets, message_in, stamped}
-use Rattle.pair_wire.specs.Stamped.{short-length, no-frame}
+use Rattle.pair_wire.proofs.Stamped.{short-length, no-frame}
 
 abbrev pub own : List ℕ → ℕ
 own os = field_of os 16 4

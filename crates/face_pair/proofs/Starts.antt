@@ -11,7 +11,7 @@ use Rattle.frame_range.specs.Fits.{is_individual}
 use Rattle.head_survey.specs.Facts.{is_few}
 use Rattle.head_calls.specs.Fresh.{Freshly}
 use Rattle.head_laws.specs.Fresh.{fresh-done}
-use Rattle.face_head.specs.Laws.{length-links}
+use Rattle.face_head.proofs.Laws.{length-links}
 use Rattle.face_head.specs.Table.{links_in, links_at}
 use Rattle.face_head_calls.specs.Calls as headface
 use Rattle.face_box_calls.specs.Calls.{is_lent}

@@ -18,7 +18,7 @@ use Rattle.pair_demand.specs.Run.{Holds, HasRegistered, Moment, Event, both-tick
 use Rattle.pair_demand.proofs.Falls.{Oks, ok_step}
 use Rattle.box_laws.specs.Stated as calls
 use Rattle.pair_box.proofs.Exact.{tick-done}
-use Rattle.face_head.specs.Laws.{length-links}
+use Rattle.face_head.proofs.Laws.{length-links}
 use Rattle.face_head.specs.Table.{links_in, links_at}
 use Rattle.face_head_calls.specs.Calls.{is_lent}
 use Rattle.face_box_calls.specs.Calls as face

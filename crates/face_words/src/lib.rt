@@ -1,4 +1,6 @@
 // Words of 64 bits, as the C face keeps states and answers in the caller's memory.
+#![tactic(auto)]
+
 ghost use Rattle.std.specs.Prelude.{◌≡◌, [], ◌∷◌, ◌-◌, min};
 ghost use Rattle.face_words.specs.Words.{laid, same, narrowed, joined, upper, lower, bit, drift_word};
 

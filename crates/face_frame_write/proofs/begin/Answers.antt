@@ -1,0 +1,16 @@
+-- `face_frame_write::begin` meets its promise.
+-- Assumes nothing.
+use Rattle.octets.specs.Octets.{onto}
+use Rattle.face_frame_write.proofs.begin.Goals as goal
+
+pub returns : goal.returns
+unfolding onto
+returns c =
+    rw (
+      c.lay-6.ensures,
+      c.lay-5.ensures,
+      c.lay-4.ensures,
+      c.lay-3.ensures,
+      c.lay-2.ensures,
+      c.lay.ensures,
+    )

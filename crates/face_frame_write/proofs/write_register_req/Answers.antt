@@ -1,0 +1,25 @@
+-- `face_frame_write::write_register_req` meets its promise.
+-- Assumes nothing.
+use Rattle.octets.specs.Octets.{onto}
+use Rattle.face_frame_write.specs.Steps.{register_req_laid}
+use Rattle.face_frame_write.proofs.write_register_req.Goals as goal
+
+pub returns-then-header_in-flag : goal.returns-then-header_in-flag
+unfolding onto register_req_laid
+returns-then-header_in-flag c =
+    rw (
+      c.lay-then-header_in-flag.ensures,
+      c.lay.ensures,
+      c.begin.ensures,
+      ← c.header_in.ensures,
+      c.if-header_in-flag.true,
+    )
+
+pub returns : goal.returns
+unfolding register_req_laid
+returns c =
+    rw (
+      c.refuse.ensures,
+      ← c.header_in.ensures,
+      c.if-header_in-flag.false,
+    )
