@@ -6,6 +6,8 @@ use crate::tell;
 use frame::Address;
 use head_judging::Call;
 use script::out;
+use std::io;
+use std::io::Write;
 
 fn at_most(lent: usize, most: usize) -> usize
     ensures { result ≤ most }
@@ -74,19 +76,19 @@ fn begun(desk: Desk, address: Address) -> Desk {
     next
 }
 
-pub fn fresh(desk: Desk, address: Address) -> Desk {
+pub fn fresh(writer: &mut impl Write, desk: Desk, address: Address) -> io::Result<Desk> {
     let next = begun(desk, address);
-    tell::tell_answer(desk, next);
-    out::text(b"; address");
-    out::address(next.head[0]);
-    out::text(b"\n");
-    next
+    tell::tell_answer(writer, desk, next)?;
+    out::text(writer, b"; address")?;
+    out::address(writer, next.head[0])?;
+    out::text(writer, b"\n")?;
+    Ok(next)
 }
 
-pub fn ask(desk: Desk, call: Call) -> Desk {
+pub fn ask(writer: &mut impl Write, desk: Desk, call: Call) -> io::Result<Desk> {
     let next = serve(desk, call);
-    tell::tell_served(desk, next);
-    next
+    tell::tell_served(writer, desk, next)?;
+    Ok(next)
 }
 
 // Whether an answer to a tick refuses or sends, or the window's phase or a link is another one.
@@ -101,67 +103,67 @@ fn matters(desk: Desk, next: Desk) -> bool {
 }
 
 // The k-th tick of a line.
-fn tick(desk: Desk, k: u64) -> Desk {
+fn tick(writer: &mut impl Write, desk: Desk, k: u64) -> io::Result<Desk> {
     let next = serve(desk, Call::Tick);
     if matters(desk, next) {
-        out::field(b" ", k);
-        tell::tell_served(desk, next);
+        out::field(writer, b" ", k)?;
+        tell::tell_served(writer, desk, next)?;
     }
-    next
+    Ok(next)
 }
 
-pub fn ticks(desk: Desk, number: u64) -> Desk {
-    out::text(b"\n");
+pub fn ticks(writer: &mut impl Write, desk: Desk, number: u64) -> io::Result<Desk> {
+    out::text(writer, b"\n")?;
     let mut d = desk;
     let mut k: u64 = 0;
     while k < number {
         k += 1;
-        d = tick(d, k);
+        d = tick(writer, d, k)?;
     }
-    d
+    Ok(d)
 }
 
-pub fn advance(desk: Desk, number: u64) -> Desk {
-    let next = ask(desk, Call::Advance(number));
-    out::field(b"  made", next.made);
-    out::text(b"\n");
-    next
+pub fn advance(writer: &mut impl Write, desk: Desk, number: u64) -> io::Result<Desk> {
+    let next = ask(writer, desk, Call::Advance(number))?;
+    out::field(writer, b"  made", next.made)?;
+    out::text(writer, b"\n")?;
+    Ok(next)
 }
 
 // A desk as it was, and as it is handed in again.
-pub fn handed(desk: Desk, next: Desk) -> Desk {
-    out::text(b" ->");
-    tell::tell_state(desk, next);
-    out::text(b"\n");
-    next
+pub fn handed(writer: &mut impl Write, desk: Desk, next: Desk) -> io::Result<Desk> {
+    out::text(writer, b" ->")?;
+    tell::tell_state(writer, desk, next)?;
+    out::text(writer, b"\n")?;
+    Ok(next)
 }
 
-pub fn output(desk: Desk, number: u64) -> Desk {
+pub fn output(writer: &mut impl Write, desk: Desk, number: u64) -> io::Result<Desk> {
     if number > Desk::OUTPUT as u64 {
-        return not_asked(desk);
+        return not_asked(writer, desk);
     }
-    out::field(b" -> output", number);
-    out::text(b"\n");
+    out::field(writer, b" -> output", number)?;
+    out::text(writer, b"\n")?;
     let mut next = desk;
     next.lent = number as usize;
-    next
+    Ok(next)
 }
 
-pub fn octets(desk: Desk) -> Desk {
+pub fn octets(writer: &mut impl Write, desk: Desk) -> io::Result<Desk> {
     let out = desk.out;
-    out::text(b"\n");
-    tell::tell_octets(out);
-    desk
+    out::text(writer, b"\n")?;
+    tell::tell_octets(writer, out)?;
+    Ok(desk)
 }
 
-pub fn timers(desk: Desk) -> Desk {
-    out::text(b" ->");
-    tell::tell_timers(desk);
-    out::text(b"\n");
-    desk
+pub fn timers(writer: &mut impl Write, desk: Desk) -> io::Result<Desk> {
+    out::text(writer, b" ->")?;
+    tell::tell_timers(writer, desk)?;
+    out::text(writer, b"\n")?;
+    Ok(desk)
 }
 
-pub fn not_asked(desk: Desk) -> Desk {
-    out::text(b" -> ?\n");
-    desk
+pub fn not_asked(writer: &mut impl Write, desk: Desk) -> io::Result<Desk> {
+    out::text(writer, b" -> ?\n")?;
+    Ok(desk)
 }

@@ -1,5 +1,5 @@
 // What stands between two calls, in words as the C face keeps them: head, table, output, how much of it is lent; and what the last call told.
-#[derive(Drop)]
+#[derive(Clone, Copy)]
 pub struct Desk {
     pub head: [u64; 5],
     pub links: [u64; 15],

@@ -5,14 +5,17 @@ use crate::state::Desk;
 use frame::{Message, Reply};
 use frame_queues::Sets;
 use script::{frames, messages, out, sets};
+use std::io;
+use std::io::Write;
 
 // Count and window.
-fn tell_head(head: [u64; 5]) {
-    out::field(b" count", head[1]);
-    out::word(b"idle before inside", messages::modulo_8(head[2]));
+fn tell_head(writer: &mut impl Write, head: [u64; 5]) -> io::Result<()> {
+    out::field(writer, b" count", head[1])?;
+    out::word(writer, b"idle before inside", messages::modulo_8(head[2]))?;
     if head[2] != 0 {
-        out::number(head[3]);
+        out::number(writer, head[3])?;
     }
+    Ok(())
 }
 
 // Whether state or address of the link whose words begin there is another one.
@@ -28,65 +31,72 @@ pub fn changed(desk: Desk, next: Desk) -> bool {
     differs(before, after, 0) | differs(before, after, 5) | differs(before, after, 10)
 }
 
-fn tell_link(before: [u64; 15], after: [u64; 15], at: usize)
+fn tell_link(
+    writer: &mut impl Write,
+    before: [u64; 15],
+    after: [u64; 15],
+    at: usize,
+) -> io::Result<()>
     requires { at ≤ 10 }
 {
     if differs(before, after, at) {
-        out::field(b"; link", at as u64 / 5 + 1);
+        out::field(writer, b"; link", at as u64 / 5 + 1)?;
         out::word(
+            writer,
             b"idle waiting registered",
             messages::modulo_8(after[at + 1]),
-        );
-        out::address(after[at]);
+        )?;
+        out::address(writer, after[at])?;
     }
+    Ok(())
 }
 
 // The head, and the links that are others.
-pub fn tell_state(desk: Desk, next: Desk) {
+pub fn tell_state(writer: &mut impl Write, desk: Desk, next: Desk) -> io::Result<()> {
     let head = next.head;
     let before = desk.links;
     let after = next.links;
-    tell_head(head);
-    tell_link(before, after, 0);
-    tell_link(before, after, 5);
-    tell_link(before, after, 10);
+    tell_head(writer, head)?;
+    tell_link(writer, before, after, 0)?;
+    tell_link(writer, before, after, 5)?;
+    tell_link(writer, before, after, 10)
 }
 
 // What every answer shows before its notice and frames.
-pub fn tell_answer(desk: Desk, next: Desk) {
-    out::field(b" ->", next.number as u64);
-    tell_state(desk, next);
+pub fn tell_answer(writer: &mut impl Write, desk: Desk, next: Desk) -> io::Result<()> {
+    out::field(writer, b" ->", next.number as u64)?;
+    tell_state(writer, desk, next)
 }
 
-fn tell_link_timers(links: [u64; 15], at: usize)
+fn tell_link_timers(writer: &mut impl Write, links: [u64; 15], at: usize) -> io::Result<()>
     requires { at ≤ 10 }
 {
-    out::field(b" link", at as u64 / 5 + 1);
-    out::field(b" wait", links[at + 2]);
-    out::field(b" watchdog", links[at + 3]);
-    out::field(b" periodic", links[at + 4]);
+    out::field(writer, b" link", at as u64 / 5 + 1)?;
+    out::field(writer, b" wait", links[at + 2])?;
+    out::field(writer, b" watchdog", links[at + 3])?;
+    out::field(writer, b" periodic", links[at + 4])
 }
 
 // The ticks that are left, 0 where a timer is stopped.
-pub fn tell_timers(desk: Desk) {
+pub fn tell_timers(writer: &mut impl Write, desk: Desk) -> io::Result<()> {
     let links = desk.links;
-    tell_link_timers(links, 0);
-    out::text(b";");
-    tell_link_timers(links, 5);
-    out::text(b";");
-    tell_link_timers(links, 10);
+    tell_link_timers(writer, links, 0)?;
+    out::text(writer, b";")?;
+    tell_link_timers(writer, links, 5)?;
+    out::text(writer, b";")?;
+    tell_link_timers(writer, links, 10)
 }
 
-fn tell_kind(kind: u64) {
+fn tell_kind(writer: &mut impl Write, kind: u64) -> io::Result<()> {
     match kind {
-        1 => out::text(b"; request heard"),
-        2 => out::text(b"; registered"),
-        3 => out::text(b"; dropped"),
-        _ => out::text(b"; report heard"),
+        1 => out::text(writer, b"; request heard"),
+        2 => out::text(writer, b"; registered"),
+        3 => out::text(writer, b"; dropped"),
+        _ => out::text(writer, b"; report heard"),
     }
 }
 
-fn tell_sets(told: [u64; 10]) {
+fn tell_sets(writer: &mut impl Write, told: [u64; 10]) -> io::Result<()> {
     let sets = Sets {
         first: told[5],
         second: told[6],
@@ -94,67 +104,69 @@ fn tell_sets(told: [u64; 10]) {
         fourth: told[8],
         fifth: told[9],
     };
-    sets::tell(sets);
+    sets::tell(writer, sets)
 }
 
-fn tell_notice(told: [u64; 10]) {
+fn tell_notice(writer: &mut impl Write, told: [u64; 10]) -> io::Result<()> {
     if told[1] > 0 {
-        tell_kind(told[2]);
-        out::field(b" link", told[3]);
-        out::field(b" round trip", told[4]);
-        tell_sets(told);
+        tell_kind(writer, told[2])?;
+        out::field(writer, b" link", told[3])?;
+        out::field(writer, b" round trip", told[4])?;
+        tell_sets(writer, told)?;
     }
+    Ok(())
 }
 
-fn tell_message(message: Message) {
+fn tell_message(writer: &mut impl Write, message: Message) -> io::Result<()> {
     let destination = message.destination;
-    out::text(b"; to");
-    out::address(destination.0);
-    frames::tell(message);
+    out::text(writer, b"; to")?;
+    out::address(writer, destination.0)?;
+    frames::tell(writer, message)
 }
 
 // As the reader of frames reads it.
-fn tell_frame(octets: &[u8]) {
+fn tell_frame(writer: &mut impl Write, octets: &[u8]) -> io::Result<()> {
     let reading = frame_reader::read(octets);
     let reply = reading.reply;
     let message = reading.message;
     if let Reply::Done = reply {
-        tell_message(message);
+        tell_message(writer, message)
     } else {
-        out::text(b"; no frame");
+        out::text(writer, b"; no frame")
     }
 }
 
 // The frames that stand in the output, sixty octets each from its start.
-fn tell_frames(out: [u8; 180], number: u64) {
+fn tell_frames(writer: &mut impl Write, out: [u8; 180], number: u64) -> io::Result<()> {
     if number > 0 {
-        tell_frame(&out[0..60]);
+        tell_frame(writer, &out[0..60])?;
     }
     if number > 1 {
-        tell_frame(&out[60..120]);
+        tell_frame(writer, &out[60..120])?;
     }
     if number > 2 {
-        tell_frame(&out[120..180]);
+        tell_frame(writer, &out[120..180])?;
     }
+    Ok(())
 }
 
-pub fn tell_served(desk: Desk, next: Desk) {
+pub fn tell_served(writer: &mut impl Write, desk: Desk, next: Desk) -> io::Result<()> {
     let told = next.told;
     let out = next.out;
-    tell_answer(desk, next);
-    tell_notice(told);
-    tell_frames(out, told[0]);
-    out::text(b"\n");
+    tell_answer(writer, desk, next)?;
+    tell_notice(writer, told)?;
+    tell_frames(writer, out, told[0])?;
+    out::text(writer, b"\n")
 }
 
-fn tell_sixty(octets: &[u8]) {
-    out::text(b" ");
-    out::octets(octets);
-    out::text(b"\n");
+fn tell_sixty(writer: &mut impl Write, octets: &[u8]) -> io::Result<()> {
+    out::text(writer, b" ")?;
+    out::octets(writer, octets)?;
+    out::text(writer, b"\n")
 }
 
-pub fn tell_octets(out: [u8; 180]) {
-    tell_sixty(&out[0..60]);
-    tell_sixty(&out[60..120]);
-    tell_sixty(&out[120..180]);
+pub fn tell_octets(writer: &mut impl Write, out: [u8; 180]) -> io::Result<()> {
+    tell_sixty(writer, &out[0..60])?;
+    tell_sixty(writer, &out[60..120])?;
+    tell_sixty(writer, &out[120..180])
 }

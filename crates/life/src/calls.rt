@@ -3,7 +3,7 @@ use frame::Address;
 use script::words::Numbers;
 use script::{messages, words};
 
-#[derive(Drop)]
+#[derive(Clone, Copy)]
 pub enum Call {
     Fresh(Address),
     Register,
@@ -15,7 +15,7 @@ pub enum Call {
 }
 
 // A part of the box that is handed in with another number.
-#[derive(Drop)]
+#[derive(Clone, Copy)]
 pub enum Part {
     Wait(u32),
     Watchdog(u32),
@@ -25,7 +25,7 @@ pub enum Part {
 }
 
 // What leaves the box as it is.
-#[derive(Drop)]
+#[derive(Clone, Copy)]
 pub enum Look {
     Send(u64, u64),
     Octets,

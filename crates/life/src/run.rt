@@ -5,51 +5,55 @@ use crate::calls::{Call, Look};
 use crate::{calls, hand, tell};
 use box_calls::{Answer, FloorBox};
 use box_telling::{Frames, Notice, Notices};
-use bytes::scan;
 use frame::{Address, Reply};
 use script::words::Numbers;
 use script::{messages, out, words};
+use std::io;
+use std::io::Write;
 
 const LONGEST_FRAME: usize = 2048;
 
-fn fresh(address: Address) -> Answer {
+fn fresh(writer: &mut impl Write, address: Address) -> io::Result<Answer> {
     let a = FloorBox::fresh(address);
     let b = a.next;
     let own = b.address;
-    tell::tell(a);
-    out::text(b"; address");
-    out::address(own.0);
-    out::text(b"\n");
-    a
+    tell::tell(writer, a)?;
+    out::text(writer, b"; address")?;
+    out::address(writer, own.0)?;
+    out::text(writer, b"\n")?;
+    Ok(a)
 }
 
-fn told(a: Answer) -> Answer {
-    tell::tell(a);
-    out::text(b"\n");
-    a
+fn told(writer: &mut impl Write, a: Answer) -> io::Result<Answer> {
+    tell::tell(writer, a)?;
+    out::text(writer, b"\n")?;
+    Ok(a)
 }
 
-fn hear(last: Answer, name: &[u8], n: Numbers) -> Answer {
+fn hear(writer: &mut impl Write, last: Answer, name: &[u8], n: Numbers) -> io::Result<Answer> {
     let b = last.next;
-    told(b.hear(messages::message(name, n), messages::random(n)))
+    told(
+        writer,
+        b.hear(messages::message(name, n), messages::random(n)),
+    )
 }
 
-fn report(last: Answer, n: Numbers) -> Answer {
+fn report(writer: &mut impl Write, last: Answer, n: Numbers) -> io::Result<Answer> {
     let b = last.next;
-    told(b.report(messages::sets(n, 0)))
+    told(writer, b.report(messages::sets(n, 0)))
 }
 
-fn handed(next: FloorBox) -> Answer {
-    out::text(b" ->");
-    tell::tell_box(next);
-    out::text(b"\n");
-    Answer {
+fn handed(writer: &mut impl Write, next: FloorBox) -> io::Result<Answer> {
+    out::text(writer, b" ->")?;
+    tell::tell_box(writer, next)?;
+    out::text(writer, b"\n")?;
+    Ok(Answer {
         reply: Reply::Done,
         drift: 0,
         next,
         frames: Frames::none(),
         notices: Notices::none(),
-    }
+    })
 }
 
 fn tells(notices: Notices) -> bool {
@@ -90,49 +94,48 @@ fn matters(before: u8, a: Answer) -> bool {
 }
 
 // The k-th tick of a line.
-fn tick(b: FloorBox, k: u64) -> Answer {
+fn tick(writer: &mut impl Write, b: FloorBox, k: u64) -> io::Result<Answer> {
     let before = phase_of(b);
     let a = b.tick();
     if matters(before, a) {
-        out::field(b" ", k);
-        tell::tell(a);
-        out::text(b"\n");
+        out::field(writer, b" ", k)?;
+        tell::tell(writer, a)?;
+        out::text(writer, b"\n")?;
     }
-    a
+    Ok(a)
 }
 
-fn ticks(last: Answer, number: u64) -> Answer {
-    out::text(b"\n");
+fn ticks(writer: &mut impl Write, last: Answer, number: u64) -> io::Result<Answer> {
+    out::text(writer, b"\n")?;
     let mut a = last;
     let mut k: u64 = 0;
     while k < number {
         k += 1;
         let b = a.next;
-        a = tick(b, k);
+        a = tick(writer, b, k)?;
     }
-    a
+    Ok(a)
 }
 
-fn advance(b: FloorBox, number: u64) -> Answer {
+fn advance(writer: &mut impl Write, b: FloorBox, number: u64) -> io::Result<Answer> {
     let advanced = b.advance(number);
     let last = advanced.answer;
-    let a = told(last);
-    out::field(b"  made", advanced.made);
-    out::text(b"\n");
-    a
+    let a = told(writer, last)?;
+    out::field(writer, b"  made", advanced.made)?;
+    out::text(writer, b"\n")?;
+    Ok(a)
 }
 
-fn tell_sent(frame: &[u8]) {
+fn tell_sent(writer: &mut impl Write, frame: &[u8]) -> io::Result<()> {
     if frame.len() == 0 {
-        out::text(b" nothing");
-        return;
+        return out::text(writer, b" nothing");
     }
     if frame[0] == b'c' {
-        out::text(b" control");
+        out::text(writer, b" control")?;
     } else {
-        out::text(b" data");
+        out::text(writer, b" data")?;
     }
-    out::number(frame.len() as u64);
+    out::number(writer, frame.len() as u64)
 }
 
 fn at_most(n: u64) -> usize
@@ -145,56 +148,56 @@ fn at_most(n: u64) -> usize
 }
 
 // Frames that their first octet tells apart.
-fn send(b: FloorBox, control: u64, data: u64) {
+fn send(writer: &mut impl Write, b: FloorBox, control: u64, data: u64) -> io::Result<()> {
     let c = [b'c'; LONGEST_FRAME];
     let d = [b'd'; LONGEST_FRAME];
     let m = at_most(control);
     let n = at_most(data);
-    tell_sent(b.next_to_send(&c[0..m], &d[0..n]));
+    tell_sent(writer, b.next_to_send(&c[0..m], &d[0..n]))
 }
 
-fn look(last: Answer, at: Look) -> Answer {
+fn look(writer: &mut impl Write, last: Answer, at: Look) -> io::Result<Answer> {
     let b = last.next;
     let frames = last.frames;
-    out::text(b" ->");
+    out::text(writer, b" ->")?;
     match at {
-        Look::Send(control, data) => send(b, control, data),
-        Look::Octets => tell::tell_octets(frames),
-        Look::Timers => tell::tell_timers(b),
-        Look::Nothing => out::text(b" ?"),
+        Look::Send(control, data) => send(writer, b, control, data)?,
+        Look::Octets => tell::tell_octets(writer, frames)?,
+        Look::Timers => tell::tell_timers(writer, b)?,
+        Look::Nothing => out::text(writer, b" ?")?,
     }
-    out::text(b"\n");
-    last
+    out::text(writer, b"\n")?;
+    Ok(last)
 }
 
-fn call(last: Answer, call: Call) -> Answer {
+fn call(writer: &mut impl Write, last: Answer, call: Call) -> io::Result<Answer> {
     let b = last.next;
     match call {
-        Call::Fresh(address) => fresh(address),
-        Call::Register => told(b.register()),
-        Call::Deregister => told(b.deregister()),
-        Call::Tick(number) => ticks(last, number),
-        Call::Advance(number) => advance(b, number),
-        Call::Hand(part) => handed(hand::with(b, part)),
-        Call::Look(at) => look(last, at),
+        Call::Fresh(address) => fresh(writer, address),
+        Call::Register => told(writer, b.register()),
+        Call::Deregister => told(writer, b.deregister()),
+        Call::Tick(number) => ticks(writer, last, number),
+        Call::Advance(number) => advance(writer, b, number),
+        Call::Hand(part) => handed(writer, hand::with(b, part)),
+        Call::Look(at) => look(writer, last, at),
     }
 }
 
-fn named(last: Answer, name: &[u8], n: Numbers) -> Answer {
+fn named(writer: &mut impl Write, last: Answer, name: &[u8], n: Numbers) -> io::Result<Answer> {
     if n.number > words::MOST {
-        return look(last, Look::Nothing);
+        return look(writer, last, Look::Nothing);
     }
     if messages::is_named(name) {
-        return hear(last, name, n);
+        return hear(writer, last, name, n);
     }
     if calls::is_report(name) {
-        return report(last, n);
+        return report(writer, last, n);
     }
-    call(last, calls::named(name, n))
+    call(writer, last, calls::named(name, n))
 }
 
 // A line is a name, and numbers behind it.
-pub fn run(last: Answer, line: &[u8]) -> Answer {
-    let n = scan::find(line, 0, line.len(), b' ');
-    named(last, &line[0..n], words::behind(line, n + 1))
+pub fn run(writer: &mut impl Write, last: Answer, line: &[u8]) -> io::Result<Answer> {
+    let n = words::find(line, 0, b' ');
+    named(writer, last, &line[0..n], words::behind(line, n + 1))
 }

@@ -5,6 +5,8 @@ use box_registration::State;
 use box_telling::{Frames, Notice, Notices};
 use frame::{Grant, Reply};
 use script::{frames, out};
+use std::io;
+use std::io::Write;
 
 // The light's phase, by number, so that two can be compared.
 pub fn phase(light: Light) -> u8 {
@@ -22,47 +24,48 @@ pub fn phase(light: Light) -> u8 {
     }
 }
 
-fn tell_state(state: State) {
+fn tell_state(writer: &mut impl Write, state: State) -> io::Result<()> {
     match state {
-        State::Wait => out::text(b" WAIT"),
-        State::Registering => out::text(b" REGISTERING"),
-        State::RegisterReq => out::text(b" REGISTER_REQ"),
-        State::Registered => out::text(b" REGISTERED"),
+        State::Wait => out::text(writer, b" WAIT"),
+        State::Registering => out::text(writer, b" REGISTERING"),
+        State::RegisterReq => out::text(writer, b" REGISTER_REQ"),
+        State::Registered => out::text(writer, b" REGISTERED"),
     }
 }
 
 // Count, state, light and the number of grants held.
-pub fn tell_box(b: FloorBox) {
+pub fn tell_box(writer: &mut impl Write, b: FloorBox) -> io::Result<()> {
     let p = b.processes;
     let count = p.count;
     let registration = p.registration;
     let state = registration.state;
     let light = p.light;
     let list = p.list;
-    out::field(b" count", count.0 as u64);
-    tell_state(state);
+    out::field(writer, b" count", count.0 as u64)?;
+    tell_state(writer, state)?;
     out::word(
+        writer,
         b"rest before random laser asking due lit open fading",
         phase(light),
-    );
-    out::field(b" held", list.number as u64);
+    )?;
+    out::field(writer, b" held", list.number as u64)
 }
 
 // The ticks that are left, 0 where a timer is stopped.
-pub fn tell_timers(b: FloorBox) {
+pub fn tell_timers(writer: &mut impl Write, b: FloorBox) -> io::Result<()> {
     let p = b.processes;
     let registration = p.registration;
     let wait = registration.wait;
     let watchdog = registration.watchdog;
     let report = registration.report;
-    out::field(b" wait", wait.left as u64);
-    out::field(b" watchdog", watchdog.left as u64);
-    out::field(b" report", report.left as u64);
+    out::field(writer, b" wait", wait.left as u64)?;
+    out::field(writer, b" watchdog", watchdog.left as u64)?;
+    out::field(writer, b" report", report.left as u64)
 }
 
-fn tell_granted(grant: Grant) {
-    out::text(b"; granted");
-    frames::tell_grant(grant);
+fn tell_granted(writer: &mut impl Write, grant: Grant) -> io::Result<()> {
+    out::text(writer, b"; granted")?;
+    frames::tell_grant(writer, grant)
 }
 
 // A notice's place among the words for those that hold nothing.
@@ -78,79 +81,82 @@ fn place(notice: Notice) -> u8 {
     }
 }
 
-fn tell_event(place: u8) {
-    out::text(b";");
+fn tell_event(writer: &mut impl Write, place: u8) -> io::Result<()> {
+    out::text(writer, b";")?;
     out::word(
+        writer,
         b"window registered refused retry deregistered open close",
         place,
-    );
+    )
 }
 
-fn tell_notice(notice: Notice) {
+fn tell_notice(writer: &mut impl Write, notice: Notice) -> io::Result<()> {
     match notice {
-        Notice::Nothing => {}
-        Notice::Granted(grant) => tell_granted(grant),
-        _ => tell_event(place(notice)),
+        Notice::Nothing => Ok(()),
+        Notice::Granted(grant) => tell_granted(writer, grant),
+        _ => tell_event(writer, place(notice)),
     }
 }
 
-fn tell_notices(notices: Notices) {
+fn tell_notices(writer: &mut impl Write, notices: Notices) -> io::Result<()> {
     let first = notices.first;
     let second = notices.second;
     let third = notices.third;
     let fourth = notices.fourth;
-    tell_notice(first);
-    tell_notice(second);
-    tell_notice(third);
-    tell_notice(fourth);
+    tell_notice(writer, first)?;
+    tell_notice(writer, second)?;
+    tell_notice(writer, third)?;
+    tell_notice(writer, fourth)
 }
 
 // As the reader of frames reads it.
-fn tell_frame(octets: [u8; 60]) {
+fn tell_frame(writer: &mut impl Write, octets: [u8; 60]) -> io::Result<()> {
     let reading = frame_reader::read(&octets);
     let reply = reading.reply;
     let message = reading.message;
     if let Reply::Done = reply {
-        out::text(b";");
-        frames::tell(message);
+        out::text(writer, b";")?;
+        frames::tell(writer, message)
     } else {
-        out::text(b"; no frame");
+        out::text(writer, b"; no frame")
     }
 }
 
-fn tell_frames(frames: Frames) {
+fn tell_frames(writer: &mut impl Write, frames: Frames) -> io::Result<()> {
     let first = frames.first;
     let second = frames.second;
     if frames.number > 0 {
-        tell_frame(first);
+        tell_frame(writer, first)?;
     }
     if frames.number > 1 {
-        tell_frame(second);
+        tell_frame(writer, second)?;
     }
+    Ok(())
 }
 
-pub fn tell_octets(frames: Frames) {
+pub fn tell_octets(writer: &mut impl Write, frames: Frames) -> io::Result<()> {
     let first = frames.first;
     let second = frames.second;
     if frames.number > 0 {
-        out::octets(&first);
+        out::octets(writer, &first)?;
     }
     if frames.number > 1 {
-        out::octets(&second);
+        out::octets(writer, &second)?;
     }
+    Ok(())
 }
 
-pub fn tell(a: Answer) {
+pub fn tell(writer: &mut impl Write, a: Answer) -> io::Result<()> {
     let reply = a.reply;
     let next = a.next;
     let notices = a.notices;
     let frames = a.frames;
-    out::field(b" ->", reply.number() as u64);
+    out::field(writer, b" ->", reply.number() as u64)?;
     if a.drift != 0 {
-        out::text(b" drift");
-        out::signed(a.drift);
+        out::text(writer, b" drift")?;
+        out::signed(writer, a.drift)?;
     }
-    tell_box(next);
-    tell_notices(notices);
-    tell_frames(frames);
+    tell_box(writer, next)?;
+    tell_notices(writer, notices)?;
+    tell_frames(writer, frames)
 }

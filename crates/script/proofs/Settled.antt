@@ -1,6 +1,12 @@
 -- Each promise of the crate settles the whole answer: any two results that it allows are equal.
 -- Assumes nothing.
-use mathlib.Core.Path.{sym, ◌∙◌}
+use Prim.Native.Nat.{ℕ, ◌≤◌, ◌<◌}
+use mathlib.Core.Path.{◌≡◌, sym, ◌∙◌}
+use mathlib.Core.List.{List}
+use mathlib.Core.Logic.{◌≢◌, ⊎_elim}
+use native.Mathlib.Omega.{arith}
+use lib.ListN.{length, get_or}
+use Rattle.laws.specs.Cases.{cut}
 use Rattle.laws.specs.Settles.{Settles}
 use Rattle.script.proofs.messages.modulo_32.Kinds as modulo-32-kinds
 use Rattle.script.proofs.messages.modulo_32.Reads as modulo-32-reads
@@ -8,6 +14,8 @@ use Rattle.script.proofs.messages.modulo_8.Kinds as modulo-8-kinds
 use Rattle.script.proofs.messages.modulo_8.Reads as modulo-8-reads
 use Rattle.script.proofs.messages.quanta.Kinds as quanta-kinds
 use Rattle.script.proofs.messages.quanta.Reads as quanta-reads
+use Rattle.script.proofs.words.find.Kinds as find-kinds
+use Rattle.script.proofs.words.find.Reads as find-reads
 use Rattle.script.proofs.words.passed_on.Kinds as passed-on-kinds
 use Rattle.script.proofs.words.passed_on.Reads as passed-on-reads
 
@@ -22,3 +30,21 @@ quanta-settles κs a e x y p q = p ∙ sym q
 
 pub passed-on-settles : Settles 1 passed-on-kinds.ps passed-on-kinds.r passed-on-reads.Post
 passed-on-settles κs a e x y p q = p ∙ sym q
+
+-- the first place of an octet is one
+first-once : (l : List ℕ) (from c x y : ℕ) → from ≤ x → (x < length l → get_or l x 0 ≡ c) → ((k : ℕ) → from ≤ k → k < y → get_or l k 0 ≢ c)
+    → y ≤ length l → y ≤ x
+first-once l from c x y b f g h =
+    ⊎_elim (λ (s : x < y). absurd (g x b s (f (omega arith)))) (λ (s : y ≤ x). s) (cut x y)
+
+pub find-settles : Settles 1 find-kinds.ps find-kinds.r find-reads.Post
+find-settles κs a e x y p q =
+    let l : List ℕ = a.0.now in
+    let from : ℕ = a.1.0 in
+    ⊎_elim
+    (λ (h : from < length l).
+    let u : y ≤ x = first-once l from _ x y p.0 p.1.1.1.1 q.1.1.1.0 (q.1.1.0 (omega arith)) in
+    let v : x ≤ y = first-once l from _ y x q.0 q.1.1.1.1 p.1.1.1.0 (p.1.1.0 (omega arith)) in
+    omega arith)
+    (λ (h : length l ≤ from). p.1.0 h ∙ sym (q.1.0 h))
+    (cut from (length l))

@@ -3,109 +3,127 @@ use crate::{out, sets};
 use clock::Quanta;
 use frame::{Body, Grant, Grants, Message, RegisterAckFlag, RegisterFlag, RegisterReqFlag};
 use frame_queues::Sets;
+use std::io;
+use std::io::Write;
 
-pub fn tell_grant(grant: Grant) {
+pub fn tell_grant(writer: &mut impl Write, grant: Grant) -> io::Result<()> {
     let start = grant.start;
     let length = grant.length;
-    out::number(start.0 as u64);
-    out::number(length.0 as u64);
+    out::number(writer, start.0 as u64)?;
+    out::number(writer, length.0 as u64)?;
     if grant.force {
-        out::text(b" force");
+        out::text(writer, b" force")?;
     }
+    Ok(())
 }
 
-fn tell_port(port: u16) {
-    out::field(b" port", port as u64);
+fn tell_port(writer: &mut impl Write, port: u16) -> io::Result<()> {
+    out::field(writer, b" port", port as u64)
 }
 
-fn tell_sync(sync: Quanta) {
-    out::field(b" sync", sync.0 as u64);
+fn tell_sync(writer: &mut impl Write, sync: Quanta) -> io::Result<()> {
+    out::field(writer, b" sync", sync.0 as u64)
 }
 
-fn tell_pending(pending: u8) {
-    out::field(b" pending", pending as u64);
+fn tell_pending(writer: &mut impl Write, pending: u8) -> io::Result<()> {
+    out::field(writer, b" pending", pending as u64)
 }
 
-fn tell_another(grant: Grant) {
-    out::text(b",");
-    tell_grant(grant);
+fn tell_another(writer: &mut impl Write, grant: Grant) -> io::Result<()> {
+    out::text(writer, b",")?;
+    tell_grant(writer, grant)
 }
 
-fn tell_two(a: Grant, b: Grant) {
-    tell_grant(a);
-    tell_another(b);
+fn tell_two(writer: &mut impl Write, a: Grant, b: Grant) -> io::Result<()> {
+    tell_grant(writer, a)?;
+    tell_another(writer, b)
 }
 
-fn tell_three(a: Grant, b: Grant, c: Grant) {
-    tell_two(a, b);
-    tell_another(c);
+fn tell_three(writer: &mut impl Write, a: Grant, b: Grant, c: Grant) -> io::Result<()> {
+    tell_two(writer, a, b)?;
+    tell_another(writer, c)
 }
 
-fn tell_four(a: Grant, b: Grant, c: Grant, d: Grant) {
-    tell_three(a, b, c);
-    tell_another(d);
+fn tell_four(writer: &mut impl Write, a: Grant, b: Grant, c: Grant, d: Grant) -> io::Result<()> {
+    tell_three(writer, a, b, c)?;
+    tell_another(writer, d)
 }
 
-fn tell_gate(grants: Grants) {
-    out::text(b" gate");
+fn tell_gate(writer: &mut impl Write, grants: Grants) -> io::Result<()> {
+    out::text(writer, b" gate")?;
     match grants {
-        Grants::None => {}
-        Grants::One(a) => tell_grant(a),
-        Grants::Two(a, b) => tell_two(a, b),
-        Grants::Three(a, b, c) => tell_three(a, b, c),
-        Grants::Four(a, b, c, d) => tell_four(a, b, c, d),
+        Grants::None => Ok(()),
+        Grants::One(a) => tell_grant(writer, a),
+        Grants::Two(a, b) => tell_two(writer, a, b),
+        Grants::Three(a, b, c) => tell_three(writer, a, b, c),
+        Grants::Four(a, b, c, d) => tell_four(writer, a, b, c, d),
     }
 }
 
-fn tell_discovery(grant: Grant, sync: Quanta) {
-    out::text(b" discovery");
-    tell_grant(grant);
-    tell_sync(sync);
+fn tell_discovery(writer: &mut impl Write, grant: Grant, sync: Quanta) -> io::Result<()> {
+    out::text(writer, b" discovery")?;
+    tell_grant(writer, grant)?;
+    tell_sync(writer, sync)
 }
 
-fn tell_report(sets: Sets) {
-    out::text(b" report");
-    sets::tell(sets);
+fn tell_report(writer: &mut impl Write, sets: Sets) -> io::Result<()> {
+    out::text(writer, b" report")?;
+    sets::tell(writer, sets)
 }
 
-fn tell_register_req(flag: RegisterReqFlag, pending: u8) {
-    out::field(b" register_req", flag.number() as u64);
-    tell_pending(pending);
+fn tell_register_req(
+    writer: &mut impl Write,
+    flag: RegisterReqFlag,
+    pending: u8,
+) -> io::Result<()> {
+    out::field(writer, b" register_req", flag.number() as u64)?;
+    tell_pending(writer, pending)
 }
 
-fn tell_register(flag: RegisterFlag, port: u16, sync: Quanta, pending: u8) {
-    out::field(b" register", flag.number() as u64);
-    tell_port(port);
-    tell_sync(sync);
-    tell_pending(pending);
+fn tell_register(
+    writer: &mut impl Write,
+    flag: RegisterFlag,
+    port: u16,
+    sync: Quanta,
+    pending: u8,
+) -> io::Result<()> {
+    out::field(writer, b" register", flag.number() as u64)?;
+    tell_port(writer, port)?;
+    tell_sync(writer, sync)?;
+    tell_pending(writer, pending)
 }
 
-fn tell_register_ack(flag: RegisterAckFlag, port: u16, sync: Quanta) {
-    out::field(b" register_ack", flag.number() as u64);
-    tell_port(port);
-    tell_sync(sync);
+fn tell_register_ack(
+    writer: &mut impl Write,
+    flag: RegisterAckFlag,
+    port: u16,
+    sync: Quanta,
+) -> io::Result<()> {
+    out::field(writer, b" register_ack", flag.number() as u64)?;
+    tell_port(writer, port)?;
+    tell_sync(writer, sync)
 }
 
-fn tell_body(body: Body) {
+fn tell_body(writer: &mut impl Write, body: Body) -> io::Result<()> {
     match body {
-        Body::Gate(grants) => tell_gate(grants),
-        Body::Discovery { grant, sync } => tell_discovery(grant, sync),
-        Body::Report(sets) => tell_report(sets),
-        Body::RegisterReq { flag, pending } => tell_register_req(flag, pending),
+        Body::Gate(grants) => tell_gate(writer, grants),
+        Body::Discovery { grant, sync } => tell_discovery(writer, grant, sync),
+        Body::Report(sets) => tell_report(writer, sets),
+        Body::RegisterReq { flag, pending } => tell_register_req(writer, flag, pending),
         Body::Register {
             port,
             flag,
             sync,
             pending,
-        } => tell_register(flag, port, sync, pending),
-        Body::RegisterAck { flag, port, sync } => tell_register_ack(flag, port, sync),
+        } => tell_register(writer, flag, port, sync, pending),
+        Body::RegisterAck { flag, port, sync } => tell_register_ack(writer, flag, port, sync),
     }
 }
 
 // Its kind, its fields and its timestamp.
-pub fn tell(message: Message) {
+pub fn tell(writer: &mut impl Write, message: Message) -> io::Result<()> {
     let body = message.body;
     let timestamp = message.timestamp;
-    tell_body(body);
-    out::field(b" stamp", timestamp.0 as u64);
+    tell_body(writer, body)?;
+    out::field(writer, b" stamp", timestamp.0 as u64)
 }

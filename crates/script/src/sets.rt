@@ -3,6 +3,8 @@ ghost use Rattle.std.specs.Prelude.{◌≡◌, ◌≤◌, ◌<◌, length};
 
 use crate::out;
 use frame_queues::Sets;
+use std::io;
+use std::io::Write;
 
 // Octets of a body.
 const BODY: usize = 40;
@@ -15,44 +17,47 @@ fn octets_in(o: &[u8]) -> usize
     if n < BODY { n } else { BODY }
 }
 
-fn tell_length(o: &[u8], at: usize)
+fn tell_length(writer: &mut impl Write, o: &[u8], at: usize) -> io::Result<()>
     requires { at < 40 }
 {
     if at + 2 <= o.len() {
-        out::number(octets::number(&o[at..at + 2]));
+        return out::number(writer, octets::number(&o[at..at + 2]));
     }
+    Ok(())
 }
 
 // An octet of the sets: with no lengths left it is a bitmap, else the first or the second of a length. How many of these come behind it.
-fn tell_octet(o: &[u8], at: usize, left: u32) -> u32
+fn tell_octet(writer: &mut impl Write, o: &[u8], at: usize, left: u32) -> io::Result<u32>
     requires { (at < 40) × (length o.now ≡ 40) }
 {
     if left == 0 {
-        out::number(o[at] as u64);
-        return 2 * u8::count_ones(o[at]);
+        out::number(writer, o[at] as u64)?;
+        return Ok(2 * u8::count_ones(o[at]));
     }
     if left % 2 == 0 {
-        tell_length(o, at);
+        tell_length(writer, o, at)?;
     }
-    left - 1
+    Ok(left - 1)
 }
 
-fn tell_all(o: &[u8], end: usize)
+fn tell_all(writer: &mut impl Write, o: &[u8], end: usize) -> io::Result<()>
     requires { (end ≤ 40) × (length o.now ≡ 40) }
 {
     let mut left: u32 = 0;
     let mut at = 1;
     while at < end {
-        left = tell_octet(o, at, left);
+        left = tell_octet(writer, o, at, left)?;
         at += 1;
     }
+    Ok(())
 }
 
 // Nothing where there are none.
-pub fn tell(sets: Sets) {
+pub fn tell(writer: &mut impl Write, sets: Sets) -> io::Result<()> {
     let o = sets.octets();
     if o[0] > 0 {
-        out::number(o[0] as u64);
-        tell_all(&o, octets_in(&o));
+        out::number(writer, o[0] as u64)?;
+        return tell_all(writer, &o, octets_in(&o));
     }
+    Ok(())
 }

@@ -1,8 +1,6 @@
 // The words of a line, and the numbers that they spell.
-ghost use Rattle.std.specs.Prelude.{◌≡◌};
+ghost use Rattle.std.specs.Prelude.{◌≡◌, ◌≢◌, ◌≤◌, ◌<◌, ℕ, length, slice_index};
 ghost use Rattle.script.specs.Words.{passed_on};
-
-use bytes::scan;
 
 // The most that a call takes: a GATE's addresses, timestamp and four grants.
 pub const MOST: usize = 15;
@@ -10,13 +8,13 @@ pub const MOST: usize = 15;
 // With a digit more a larger number might not fit.
 const LARGEST: u64 = 0xFFFFFFFFFFFFFFF;
 
-#[derive(Drop)]
+#[derive(Clone, Copy)]
 pub enum Spelt {
     Is(u64),
     Not,
 }
 
-#[derive(Drop)]
+#[derive(Clone, Copy)]
 pub struct Numbers {
     pub number: usize,
     pub of: [u64; MOST],
@@ -32,13 +30,31 @@ pub fn passed_on(line: &[u8]) -> bool
     line[0] == b'#'
 }
 
+// Where the octet stands first, from a place on; the length where it does not; the place itself where the line ends before it.
+pub fn find(line: &[u8], from: usize, octet: u8) -> usize
+    ensures behind { from ≤ result }
+    ensures beyond { length line.now ≤ from → result ≡ from }
+    ensures within { from ≤ length line.now → result ≤ length line.now }
+    ensures before { (k : ℕ) → from ≤ k → k < result → slice_index line.now k ≢ octet }
+    ensures found { result < length line.now → slice_index line.now result ≡ octet }
+{
+    let mut at = from;
+    while at < line.len() {
+        if line[at] == octet {
+            return at;
+        }
+        at += 1;
+    }
+    at
+}
+
 // Which word of a list it is, from 0; the number of its words where it is none.
 pub fn place(word: &[u8], list: &[u8]) -> usize {
     let mut n = 0;
     let mut at = 0;
     while at < list.len() {
-        let end = scan::find(list, at, list.len(), b' ');
-        if check::same(word, &list[at..end]) {
+        let end = find(list, at, b' ');
+        if word == &list[at..end] {
             return n;
         }
         n += 1;
@@ -92,7 +108,7 @@ pub fn number(word: &[u8]) -> Spelt {
         return Spelt::Not;
     }
     if word.len() > 2 {
-        if check::same(&word[0..2], b"0x") {
+        if &word[0..2] == b"0x".as_slice() {
             return digits(&word[2..], true);
         }
     }
@@ -105,7 +121,7 @@ pub fn behind(line: &[u8], from: usize) -> Numbers {
     let mut n = 0;
     let mut at = from;
     while at < line.len() {
-        let end = scan::find(line, at, line.len(), b' ');
+        let end = find(line, at, b' ');
         let Spelt::Is(x) = number(&line[at..end]) else {
             return Numbers {
                 number: MOST + 1,

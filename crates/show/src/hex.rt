@@ -2,8 +2,10 @@
 ghost use Rattle.std.specs.Prelude.{◌*◌, ◌≤◌, length};
 
 use crate::out;
+use std::io;
+use std::io::Write;
 
-#[derive(Drop)]
+#[derive(Clone, Copy)]
 enum Octet {
     Is(u8),
     Not,
@@ -46,10 +48,11 @@ pub fn put(digits: &[u8], octets: &mut [u8]) -> bool
     true
 }
 
-pub fn show(octets: &[u8]) {
+pub fn show(writer: &mut impl Write, octets: &[u8]) -> io::Result<()> {
     let mut i = 0;
     while i < octets.len() {
-        out::octet(octets[i]);
+        out::octet(writer, octets[i])?;
         i += 1;
     }
+    Ok(())
 }

@@ -1,24 +1,25 @@
 // Standard output, a piece at a time.
-use libc::STDOUT_FILENO;
+use std::io;
+use std::io::Write;
 
-pub fn text(s: &[u8]) {
-    io::write_all(STDOUT_FILENO, s);
+pub fn text(writer: &mut impl Write, s: &[u8]) -> io::Result<()> {
+    writer.write_all(s)
 }
 
-pub fn decimal(n: u64) {
-    io::print_decimal(STDOUT_FILENO, n);
+pub fn decimal(writer: &mut impl Write, n: u64) -> io::Result<()> {
+    write!(writer, "{n}")
 }
 
 // A number as a word of its own, with the space in front.
-pub fn number(n: u64) {
-    text(b" ");
-    decimal(n);
+pub fn number(writer: &mut impl Write, n: u64) -> io::Result<()> {
+    text(writer, b" ")?;
+    decimal(writer, n)
 }
 
-pub fn octet(x: u8) {
-    io::print_hex(STDOUT_FILENO, x as u64, 2);
+pub fn octet(writer: &mut impl Write, x: u8) -> io::Result<()> {
+    write!(writer, "{x:02x}")
 }
 
-pub fn address(a: u64) {
-    io::print_hex(STDOUT_FILENO, a, 12);
+pub fn address(writer: &mut impl Write, a: u64) -> io::Result<()> {
+    write!(writer, "{a:012x}")
 }

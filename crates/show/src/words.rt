@@ -1,18 +1,13 @@
 // Where an octet stands, and whether two pieces of text are the same.
 ghost use Rattle.std.specs.Prelude.{◌≤◌, length};
 
+use script::words;
+
 // Where the octet stands first, or the length.
 pub fn find(s: &[u8], c: u8) -> usize
     ensures { result ≤ length s.now }
 {
-    let mut i = 0;
-    while i < s.len() {
-        if s[i] == c {
-            return i;
-        }
-        i += 1;
-    }
-    i
+    words::find(s, 0, c)
 }
 
 pub fn same(a: &[u8], b: &[u8]) -> bool {

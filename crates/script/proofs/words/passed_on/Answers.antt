@@ -7,10 +7,8 @@ use mathlib.Core.List.{List, [], ◌∷◌}
 use lib.Dec.{eqb}
 use lib.ListN.{length, get_or}
 use native.Mathlib.Omega.{arith}
-use borrow.Author.Rules.{rules}
 use Rattle.script.specs.Words.{passed_on}
-use Rattle.script.proofs.words.passed_on.Statement.{statement}
-use Rattle.script.proofs.words.passed_on.Tie as tie
+use Rattle.script.proofs.words.passed_on.Goals as goal
 
 empty : (l : List ℕ) → length l ≡ 0 → true ≡ passed_on l
 unfolding passed_on
@@ -22,14 +20,8 @@ unfolding passed_on
 begun [] h = absurd (h refl)
 begun (c ∷ l) h = refl
 
-shared-slice-read-result : tie.Need-shared-slice-read-result
-shared-slice-read-result c = search rules
+pub returns-then-line-eq0 : goal.returns-then-line-eq0
+returns-then-line-eq0 c = empty _ c.if-line-eq0.true
 
-returns : tie.Need-returns
-returns c = empty _ c.if1.true
-
-returns-2 : tie.Need-returns-2
-returns-2 c = begun _ c.before.if1.false
-
-pub passed-on-spec : {M : Type 1} → statement M
-passed-on-spec = tie.close (tie.spec returns shared-slice-read-result returns-2)
+pub returns : goal.returns
+returns c = begun _ c.if-line-eq0.false

@@ -1,4 +1,4 @@
--- `script::out::size` is safe: below 0, one less than the size is a number from 0 on that 64 bits hold.
+-- `sums::size` is safe: below 0, one less than the size is a number from 0 on that 64 bits hold.
 -- Assumes nothing.
 use Prim.Native.Nat.{ℕ, suc, ◌+◌, ◌^◌, ◌<◌}
 use mathlib.Core.Path.{◌≡◌, ◌∙◌, ap}
@@ -9,11 +9,9 @@ use lib.Signed.{lt_z}
 use mir.Syntax.{w64}
 use mir.Val.{SFits, Fits}
 use mir.ValLaws.{to_z-of_z}
-use borrow.Author.Rules.{rules}
 use borrow.Author.Tests.{le-ltb, ltb-true}
 use Rattle.clock.proofs.Signed.{held, Casts}
-use Rattle.script.proofs.out.size.Statement.{statement}
-use Rattle.script.proofs.out.size.Tie as tie
+use Rattle.sums.proofs.size.Goals as goal
 
 -- below 0, one less than the size
 abbrev below : ℤ → ℕ
@@ -52,23 +50,14 @@ module _ (z : ℤ) (f : SFits w64 z) where
       ahead (pos n) f h = (tt, record { fits = omega (arith, f.sfits) })
       ahead (negsuc k) f h = let z : ◌≡◌ {A = ℕ} 0 1 = cc in absurd (omega arith)
 
-sub-result : tie.Need-overflow-sub-result
-sub-result c = fits _ c.before.ranges.d c.if1.true
+pub overflow_sub-result : goal.overflow_sub-result
+overflow_sub-result c = fits _ c.ranges.d c.if-d-lt0.true
 
-cast-result : tie.Need-overflow-cast-result
-cast-result c = casts _ c.before.ranges.d c.if1.true
+pub overflow_cast-result : goal.overflow_cast-result
+overflow_cast-result c = casts _ c.ranges.d c.if-d-lt0.true
 
-add-result : tie.Need-overflow-add-result
-add-result c = adds _ c.before.ranges.d c.if1.true
+pub overflow_add-result : goal.overflow_add-result
+overflow_add-result c = adds _ c.ranges.d c.if-d-lt0.true
 
-returns : tie.Need-returns
-returns c = search rules
-
-cast-result-2 : tie.Need-overflow-cast-result-2
-cast-result-2 c = casts-ahead _ c.before.ranges.d c.if1.false
-
-returns-2 : tie.Need-returns-2
-returns-2 c = search rules
-
-pub size-spec : {M : Type 1} → statement M
-size-spec = tie.close (tie.spec sub-result cast-result add-result returns cast-result-2 returns-2)
+pub overflow_cast-result-2 : goal.overflow_cast-result-2
+overflow_cast-result-2 c = casts-ahead _ c.ranges.d c.if-d-lt0.false
