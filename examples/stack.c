@@ -31,6 +31,10 @@ static const uint64_t boxes[][CRUSTNEWT_BOX_WORDS] = {
     /* Its REPORT is due, its light is out, and of its grants one is past, two are too short and one begins. */
     {MEMBER(2, 1), [CRUSTNEWT_BOX_LIGHT] = CRUSTNEWT_BOX_LIGHT_FADING, [CRUSTNEWT_BOX_LIGHT_LEFT] = 1, [CRUSTNEWT_BOX_GRANTS] = 4,
      [CRUSTNEWT_BOX_LIST] = GRANT(COUNT, 200), GRANT(COUNT + 1, 105), GRANT(COUNT + 1, 9), GRANT(COUNT + 1, 106)},
+    /* Its REPORT is due, and the grant that it waits for begins, the second of its list. */
+    {MEMBER(2, 1), [CRUSTNEWT_BOX_LIGHT] = CRUSTNEWT_BOX_LIGHT_DUE, [CRUSTNEWT_BOX_LIGHT_LEFT] = 1,
+     [CRUSTNEWT_BOX_LIGHT_GRANT] = GRANT(COUNT + 1, 106), [CRUSTNEWT_BOX_GRANTS] = 2,
+     [CRUSTNEWT_BOX_LIST] = GRANT(COUNT + 900, 200), GRANT(COUNT + 1, 106)},
 };
 
 /* Link 1 of a table; the others are like it. */

@@ -63,9 +63,9 @@ extern "C" {
 #endif
 
 /* The version of the library, as `crustnewt --version` and pkg-config tell it. */
-#define CRUSTNEWT_VERSION "0.5.0"
+#define CRUSTNEWT_VERSION "0.6.0"
 #define CRUSTNEWT_VERSION_MAJOR 0
-#define CRUSTNEWT_VERSION_MINOR 5
+#define CRUSTNEWT_VERSION_MINOR 6
 #define CRUSTNEWT_VERSION_PATCH 0
 
 /* How many elements to lend. */
@@ -83,7 +83,7 @@ extern "C" {
 
 #define CRUSTNEWT_MOST_TICKS 65536       /* of one advance */
 #define CRUSTNEWT_MOST_SETS_OCTETS 39    /* of a REPORT's queue sets */
-#define CRUSTNEWT_BOX_STACK_OCTETS 6144  /* that a call takes, with its arguments: measured (examples/stack.c) and rounded up */
+#define CRUSTNEWT_BOX_STACK_OCTETS 6656  /* that a call takes, with its arguments: measured (examples/stack.c) and rounded up */
 #define CRUSTNEWT_HEAD_STACK_OCTETS 5120
 
 /* The service card. A call answers the first test that isn't passed: reading 1, 2, 3, 4 and writing 4 alone; box and head 13 and 12, then

@@ -49,8 +49,8 @@ fn explain(archive: &Path, error: &io::Error) {
     eprintln!(
         "The proved library can't be had from {}: {error}.\n\
          `./night` and `./test` at the repository's root build it, and so does\n\
-         `rt staticlib crustnewt` there. If you have it elsewhere, set CRUSTNEWT_LIB to\n\
-         its folder.",
+         `.ci/library build` there. If you have it elsewhere, set CRUSTNEWT_LIB to its\n\
+         folder.",
         archive.display()
     );
 }

@@ -35,7 +35,11 @@ pub fn cases() -> Vec<Case> {
         .map(|(name, parts)| ticking(&format!("box tick, {name}"), pair(&parts)))
         .into();
     cases.push(c_ticking(pair(&parts(BOX, BoxState::Wait))));
-    cases.push(hearing(registered(BOX)));
+    cases.push(hearing("box hears GATE of four grants", registered(BOX)));
+    cases.push(hearing(
+        "box hears GATE, 16 grants held",
+        pair(&half_past(parts(BOX, BoxState::Registered))),
+    ));
     cases.push(reporting(registered(BOX)));
     cases
 }
@@ -76,6 +80,19 @@ fn holding(parts: BoxParts) -> BoxParts {
             grant: grants[0],
             sync: 0,
         },
+        grants: grants.into(),
+        ..parts
+    }
+}
+
+/// With a full list at rest: every other grant is past, and leaves it when the
+/// next call ends.
+fn half_past(parts: BoxParts) -> BoxParts {
+    let grants: [Grant; 16] = std::array::from_fn(|place| Grant {
+        start: [START, START.wrapping_neg()][place % 2] + place as u32,
+        length: 500,
+    });
+    BoxParts {
         grants: grants.into(),
         ..parts
     }
@@ -139,14 +156,14 @@ fn reach(floor_box: &FloorBox) -> (u64, u32) {
 /// Advances by 65,536 before a REPORT or a GATE comes.
 pub const ADVANCES: u32 = 40;
 
-/// A GATE of four grants. The box is set back before each, so that its list
-/// has room.
-fn hearing(pair: Pair) -> Case {
+/// A GATE of four grants. The box is set back before each, so that it holds
+/// what it held.
+fn hearing(name: &str, pair: Pair) -> Case {
     let frame = gate();
     let Pair { proved, plain } = pair;
     let mut proved_now = proved.clone();
     Case::short(
-        "box hears GATE of four grants",
+        name,
         move || {
             proved_now.clone_from(&proved);
             black_box(&black_box(&mut proved_now).hear(black_box(&frame), 0));
@@ -286,5 +303,19 @@ mod tests {
             let proved = proved.parts();
             assert_eq!(plain, plain_box(&proved), "{name}");
         }
+    }
+
+    #[test]
+    fn half_of_a_full_list_leaves_when_a_gate_is_heard() {
+        let Pair {
+            mut proved,
+            mut plain,
+        } = pair(&half_past(parts(BOX, BoxState::Registered)));
+        let message = plain::frame::read(&gate()).unwrap();
+        proved.hear(&gate(), 0).unwrap();
+        plain.hear(&message, 0).unwrap();
+        let proved = proved.parts();
+        assert_eq!(proved.grants.len(), 8);
+        assert_eq!(plain, plain_box(&proved));
     }
 }

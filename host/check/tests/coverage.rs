@@ -1,11 +1,12 @@
 //! The cases reach every reply number, notice and phase, every kind of source,
-//! queue sets that end wherever it counts, and whatever comes while light fades.
+//! queue sets that end wherever it counts, whatever comes while light fades, and
+//! past grants wherever they can stand in a list.
 
 use check::{compare_wide, script};
 use crustnewt_core::{BoxCore, Core, HeadCore, PlainCore};
 use crustnewt_tool::replay::{parse, replay, Call, Script, Stage};
 use plain::numbers::needed_length;
-use plain::{Address, Body, BoxState, FloorBox, Frame, Light, LinkState, Message};
+use plain::{Address, Body, BoxState, FloorBox, Frame, Grant, Light, LinkState, Message};
 use std::cell::RefCell;
 use std::collections::HashSet;
 
@@ -447,6 +448,58 @@ fn cases_reach_whatever_comes_while_light_fades() {
         for left in [1, 2, 31, 32] {
             expected.push(format!("{state:?} fades, {left} left: 0"));
         }
+    }
+    expected.retain(|expected| !met.contains(expected));
+    assert!(expected.is_empty(), "no case has: {expected:?}");
+}
+
+/// How many grants a box at rest holds, and which of them are past when the
+/// next is chosen.
+fn meet_past(met: &mut Met, before: &FloorBox, call: &Call) {
+    let Some((after, 0)) = done_to(before, call) else {
+        return;
+    };
+    let registered = [before.state, after.state] == [BoxState::Registered; 2];
+    if before.light != Light::Rest || !registered {
+        return;
+    }
+    let held = before.grants.as_slice();
+    let is_past = |grant: &Grant| after.count.ticks_until(grant.start).is_none();
+    let past = held.iter().filter(|grant| is_past(grant)).count();
+    let which = match (
+        held.first().is_some_and(is_past),
+        held.last().is_some_and(is_past),
+    ) {
+        _ if past == 0 => "none",
+        _ if past == held.len() => "all",
+        (true, false) => "the first",
+        (false, true) => "the last",
+        (false, false) => "one between",
+        (true, true) => "first and last",
+    };
+    met.insert(format!("{} held, past: {which}", held.len()));
+}
+
+/// Which grants of a list can be past; of a list of one the first two.
+const PAST: [&str; 6] = [
+    "none",
+    "all",
+    "the first",
+    "the last",
+    "one between",
+    "first and last",
+];
+
+#[test]
+fn cases_reach_past_grants_wherever_they_stand() {
+    let mut met = Met::new();
+    play(25_600, |stage, call| {
+        meet_past(&mut met, &stage.floor_box.state(), call)
+    });
+    let mut expected = vec!["0 held, past: none".to_owned()];
+    for held in [1, 15, 16] {
+        let which = PAST.iter().take(if held == 1 { 2 } else { PAST.len() });
+        expected.extend(which.map(|which| format!("{held} held, past: {which}")));
     }
     expected.retain(|expected| !met.contains(expected));
     assert!(expected.is_empty(), "no case has: {expected:?}");

@@ -67,8 +67,8 @@ mod tests {
 
     #[test]
     fn names_and_new_names() {
-        let import = read("use Rattle·clock.specs.Counts.{nextOf, _≡_, off as stopped}");
-        assert_eq!(import.path, ["Rattle·clock", "specs", "Counts"]);
+        let import = read("use Rattle.clock.specs.Counts.{next_of, ◌≡◌, off as stopped}");
+        assert_eq!(import.path, ["Rattle", "clock", "specs", "Counts"]);
         let names: Vec<(&str, &str)> = import
             .names
             .iter()
@@ -76,7 +76,7 @@ mod tests {
             .collect();
         assert_eq!(
             names,
-            [("nextOf", "nextOf"), ("_≡_", "_≡_"), ("off", "stopped")]
+            [("next_of", "next_of"), ("◌≡◌", "◌≡◌"), ("off", "stopped")]
         );
         assert_eq!(import.module, None);
         assert!(!import.passed_on);

@@ -86,21 +86,19 @@ fn item(entry: &Entry, around: &[usize]) -> Item {
     }
 }
 
-/// `open R t using (x, y as z)`.
+/// `open t use {x, y as z, f.{a, b}}`.
 pub fn opened(entry: &Entry, tokens: &[Token], around: &[usize]) -> Item {
-    let using = tokens.iter().position(|token| token.text == "using");
-    let using = using.unwrap_or(tokens.len());
-    let words = tokens[using..].iter().map(|token| token.text.as_str());
-    let words: Vec<&str> = words
-        .filter(|word| !matches!(*word, "using" | "(" | ")"))
-        .collect();
-    let names = words
-        .split(|&word| word == ",")
-        .filter_map(|part| part.last());
+    let uses = tokens.iter().position(|token| token.text == "use");
+    let uses = uses.unwrap_or(tokens.len());
+    let words = tokens[uses..].iter().map(|token| token.text.as_str());
+    let words: Vec<&str> = words.filter(|&word| word != "use").collect();
+    // Fields of a field stand in braces of their own; the field before them brings nothing.
+    let parts = words.split(|word| matches!(*word, "{" | "}" | ","));
+    let names = parts.filter_map(|part| part.last().filter(|word| **word != "."));
     Item {
         others: names.map(|name| name.to_string()).collect(),
         kind: Kind::Open,
-        head: tokens[1..using].to_vec(),
+        head: tokens[1..uses].to_vec(),
         ..item(entry, around)
     }
 }

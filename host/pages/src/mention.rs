@@ -33,7 +33,7 @@ const RESERVED: [&str; 27] = [
     "unfold",
     "unfolding",
     "open",
-    "using",
+    "use",
     "as",
     "_",
     "×",
@@ -216,9 +216,9 @@ mod tests {
 
     #[test]
     fn types_and_clauses_apart() {
-        let found = read("f : (x : A) → B x\nf x = g (x .field) (h.i x)\n");
+        let found = read("f : (x : A) → B x\nf x = g x.field (k x).field (h.i x)\n");
         assert_eq!(shown(&found.head), ["A", "B"]);
-        assert_eq!(shown(&found.body), ["g", "h.i"]);
+        assert_eq!(shown(&found.body), ["g", "h.i", "k"]);
     }
 
     #[test]

@@ -145,9 +145,9 @@ size (Some x) =
     -- one
     1
 
-infix 70 _unless_
+infix 70 ◌unless◌
 pub data Test : Type 0 where
-  _unless_ : Reply → Bool → Test
+  ◌unless◌ : Reply → Bool → Test
   passed failed : Test
 
 module _ (A : Type 0)
@@ -157,7 +157,7 @@ module _ (A : Type 0)
     -- the other
     pub other : A → A
 
-  open Both (f x) using (one, other as two)
+  open (f x) use {one, other as two, more.{a, b as c}}
 
   module _ {n : ℕ} where
     twice : A → A
@@ -194,9 +194,9 @@ module _ (A : Type 0)
     #[test]
     fn declarations_bring_names() {
         let page = Page::parse(TEXT);
-        assert_eq!(page.items[1].others, ["_unless_", "passed", "failed"]);
+        assert_eq!(page.items[1].others, ["◌unless◌", "passed", "failed"]);
         assert_eq!(page.items[2].fields, ["one", "other"]);
-        assert_eq!(page.items[3].others, ["one", "two"]);
+        assert_eq!(page.items[3].others, ["one", "two", "a", "c"]);
         assert_eq!(page.items[4].clauses.len(), 1);
         assert!(page.items[0].public && !page.items[4].public);
         assert!(page.items[1].is_type() && !page.items[0].is_type());

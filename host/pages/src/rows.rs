@@ -111,9 +111,9 @@ mod tests {
         let mut tree = Tree::new("# base: counts\nclock:\ncrustnewt: clock\n");
         let used = "-- Rule R2: later\n-- on. More.\n-- Assumes nothing.\nb : A\nb = x\n";
         tree.add("crates/clock/specs/Zero.antt", used);
-        let uses = "-- Rules R3 to R4: all.\nuse Rattle·clock·specs.specs.Zero.{b}\na : A\na = b\n";
+        let uses = "-- Rules R3 to R4: all.\nuse Rattle.clock.specs.Zero.{b}\na : A\na = b\n";
         tree.add("crates/clock/specs/All.antt", uses);
-        let code = "ghost use Rattle·clock.specs.All.{a};\npub fn f(c: Count) -> Count\n    ensures { a }\n{\n}\n";
+        let code = "ghost use Rattle.clock.specs.All.{a};\npub fn f(c: Count) -> Count\n    ensures { a }\n{\n}\n";
         tree.add("crates/crustnewt/src/lib.rt", code);
         let reach = Reach::of(&tree, &Graph::of(&tree), &Reading::default());
         let text = rows(&tree, &reach);

@@ -20,9 +20,9 @@ pub enum Thing {
 }
 
 /// Names that the kit has in every file.
-const PRELUDE: [&str; 21] = [
-    "Type", "Unit", "tt", "⊥", "¬", "absurd", "now", "⌜", "⌝", "rw", "omega", "cc", "search",
-    "simp", "at", "←", "elim", "|", "[", "]", "↦",
+const PRELUDE: [&str; 18] = [
+    "Type", "Unit", "tt", "⊥", "¬", "absurd", "rw", "omega", "cc", "search", "simp", "at", "←",
+    "elim", "|", "[", "]", "↦",
 ];
 
 /// What the names of a page, or of a file's contracts, stand for.
@@ -36,10 +36,13 @@ pub struct Scope {
     pub missing: Vec<(usize, String)>,
 }
 
+/// What an operator's name has for its places.
+const PLACE: char = '◌';
+
 /// What is left of an operator's name without its places.
 fn parts(name: &str) -> impl Iterator<Item = &str> {
-    let operator = name.contains('_');
-    name.split('_')
+    let operator = name.contains(PLACE);
+    name.split(PLACE)
         .filter(move |part| operator && !part.is_empty())
 }
 
@@ -82,10 +85,7 @@ impl Scope {
                 .push((import.line, format!("{}.{from}", import.path.join("."))));
             return;
         };
-        let variant = import
-            .path
-            .last()
-            .is_some_and(|part| part == "the-variants");
+        let variant = import.path.last().is_some_and(|part| part == "TheVariants");
         let member = match &thing {
             Thing::Item(place, at) => tree.files[*place].page.items[*at].name != from,
             _ => false,
@@ -121,7 +121,7 @@ impl Scope {
     /// What a mention stands for; nothing where that is not known.
     pub fn find(&self, tree: &Tree, mention: &Mention) -> Vec<Thing> {
         let (first, last) = (&mention[0], &mention[mention.len() - 1]);
-        let whole = first.starts_with("Rattle·").then(|| vec![first.clone()]);
+        let whole = (first == "Rattle").then(|| vec![first.clone()]);
         if let (Some(module), true) = (
             self.modules.get(first).cloned().or(whole),
             mention.len() > 1,
@@ -144,15 +144,15 @@ impl Scope {
 
 /// What a name of a module stands for.
 fn named(tree: &Tree, path: &[String], name: &str) -> Option<Thing> {
-    let Some(library) = path[0].strip_prefix("Rattle·") else {
+    let owner = path.get(1).filter(|_| path[0] == "Rattle");
+    let Some(owner) = owner.filter(|owner| tree.has(owner)) else {
         return Some(Thing::Library);
     };
-    let owner = library.split('·').next().unwrap_or(library);
-    if path.get(2).is_some_and(|part| part == "declared") {
-        let of = path.get(3).map_or(name, String::as_str);
-        return Some(Thing::Type(owner.into(), of.into()));
+    if path.get(3).is_some_and(|part| part == "declared") {
+        let of = path.get(4).map_or(name, String::as_str);
+        return Some(Thing::Type(owner.clone(), of.into()));
     }
-    let module = path[1..].join(".");
+    let module = path[2..].join(".");
     let Some(place) = tree.place(owner, &module) else {
         return Some(Thing::Made(format!("{owner}.{module}")));
     };

@@ -50,15 +50,28 @@ impl Source {
     pub fn parse(text: &str) -> Source {
         let mut source = Source::default();
         let mut tokens = Vec::new();
-        for (at, line) in text.lines().enumerate() {
+        let mut lines = text.lines().enumerate().map(|(at, line)| {
             let bare = line.split("//").next().unwrap_or("");
-            match bare.trim().split_once(' ') {
-                Some(("ghost", _)) => source.imports.extend(Import::parse(&line_tokens(
-                    bare.trim_end().trim_end_matches(';'),
-                    at + 1,
-                ))),
-                Some(("use", path)) => source.uses.extend(brought(path)),
-                _ => tokens.extend(line_tokens(bare, at + 1)),
+            (at + 1, bare)
+        });
+        while let Some((at, bare)) = lines.next() {
+            let words = bare.trim();
+            let brings = ["ghost use ", "use ", "pub use "];
+            if !brings.iter().any(|begin| words.starts_with(begin)) {
+                tokens.extend(line_tokens(bare, at));
+                continue;
+            }
+            let mut said = line_tokens(bare, at);
+            while !said.iter().any(|token| token.text == ";") {
+                let Some((at, bare)) = lines.next() else {
+                    break;
+                };
+                said.extend(line_tokens(bare, at));
+            }
+            said.retain(|token| token.text != ";");
+            match words.starts_with("ghost") {
+                true => source.imports.extend(Import::parse(&said)),
+                false => source.uses.extend(brought(&said)),
             }
         }
         source.declarations(&tokens);
@@ -99,10 +112,21 @@ impl Source {
     }
 }
 
-/// `use other::Name;`
-fn brought(path: &str) -> Option<(String, String)> {
-    let (owner, name) = path.trim_end_matches(';').split_once("::")?;
-    Some((owner.to_string(), name.to_string()))
+/// `use other::Name`, `use other::{Name, part::Other}`: the crate and each last name.
+fn brought(tokens: &[Token]) -> Vec<(String, String)> {
+    let words = tokens.iter().map(|token| token.text.as_str());
+    let words: Vec<&str> = words
+        .skip_while(|&word| word != "use")
+        .skip(1)
+        .filter(|word| !matches!(*word, "{" | "}" | ","))
+        .collect();
+    let owner = words.first().and_then(|word| word.split("::").next());
+    let last = |word: &&str| word.rsplit("::").next().map(str::to_string);
+    let names = words.iter().filter_map(last);
+    let names = names.filter(|name| !name.is_empty());
+    names
+        .map(|name| (owner.unwrap_or("").to_string(), name))
+        .collect()
 }
 
 /// `struct Name { .. }`, `struct Name(..);` or `enum Name { .. }`.
@@ -123,26 +147,37 @@ fn declared(tokens: &[Token]) -> Declared {
     }
 }
 
-/// `fn name(..) -> .. requires { .. } ensures { .. } { .. }`.
+/// Whether a word begins a clause; one that says something of memory has a star.
+fn begins_clause(token: &Token) -> bool {
+    matches!(token.text.trim_end_matches('*'), "ensures" | "requires")
+}
+
+/// `fn name(..) -> .. requires { .. } ensures { .. } { .. }`; a clause may have a name before its brace.
 fn function(tokens: &[Token], owner: &str, public: bool) -> Function {
     let name = tokens[1].text.split('<').next().unwrap_or("");
     let depths = depths(tokens);
-    let is_contract = |token: &Token| matches!(token.text.as_str(), "ensures" | "requires");
+    // A clause's own words: what begins it, and its name.
+    let mut of_clause = vec![false; tokens.len()];
+    for at in (1..tokens.len()).filter(|&at| begins_clause(&tokens[at])) {
+        let brace = tokens[at..].iter().position(|token| token.text == "{");
+        let named = brace.map_or(at, |brace| at + brace);
+        of_clause[at..named].fill(true);
+    }
     let body = (1..tokens.len())
-        .find(|&at| depths[at] == 0 && tokens[at].text == "{" && !is_contract(&tokens[at - 1]));
-    let head = &tokens[1..body.unwrap_or(tokens.len())];
-    let contract = head.iter().position(is_contract).unwrap_or(head.len());
-    let parameters = head[..contract]
+        .find(|&at| depths[at] == 0 && tokens[at].text == "{" && !of_clause[at - 1]);
+    let ends = body.unwrap_or(tokens.len());
+    let contract = (1..ends).find(|&at| of_clause[at]).unwrap_or(ends);
+    let parameters = tokens[1..contract]
         .iter()
         .filter_map(|token| token.text.strip_suffix(':'));
-    let words = head[contract..].iter().filter(|token| !is_contract(token));
+    let words = (contract..ends).filter(|&at| !of_clause[at]);
     Function {
         name: format!("{owner}{name}"),
         line: tokens[0].line,
         public,
-        contract: words.cloned().collect(),
+        contract: words.map(|at| tokens[at].clone()).collect(),
         parameters: parameters
-            .chain(["r", "self"])
+            .chain(["result", "self"])
             .map(str::to_string)
             .collect(),
     }
@@ -153,9 +188,15 @@ mod tests {
     use super::*;
 
     const TEXT: &str = "\
-ghost use a.Path.{_≡_};
-ghost use Rattle·clock·specs.specs.Counts.{nextOf as next};
-use frame::Address;
+ghost use a.Prelude.{◌≡◌};
+ghost use Rattle.clock.specs.Counts.{next_of as next};
+
+use clock::{Count as Other, Timer};
+use frame::{
+    Address,
+    words::Word,
+};
+use laws;
 
 // A count.
 pub struct Count(pub u32);
@@ -170,13 +211,13 @@ impl Count {
     pub const TURN: i64 = 1 << 32;
 
     pub fn next(self, by: u32) -> Count
-        ensures { λ r. ⌜ r ≡ next self by ⌝ }
+        ensures { result ≡ next self by }
     {
         Count(self.0 + by)
     }
 
     fn hidden(self) -> Count
-        ensures { λ r. ⌜ r ≡ self ⌝ }
+        ensures { result ≡ self }
     {
         self
     }
@@ -185,8 +226,9 @@ impl Count {
 pub extern \"C\" fn out(
     block: &mut [u64],
 ) -> u8
-    requires { ⌜ true ⌝ }
-    ensures { λ r. ⌜ r ≡ block ⌝ }
+    requires { true }
+    ensures* same { block.new ≡ block.old }
+    ensures answer { result ≡ zero }
 {
     0
 }
@@ -202,7 +244,15 @@ pub extern \"C\" fn out(
             .collect();
         assert_eq!(found, [("Count", 1), ("Event", 4)]);
         assert!(source.types[1].words.contains("Address"));
-        assert_eq!(source.uses, [("frame".to_string(), "Address".to_string())]);
+        let uses: Vec<(&str, &str)> = source
+            .uses
+            .iter()
+            .map(|(owner, name)| (owner.as_str(), name.as_str()))
+            .collect();
+        for name in ["Address", "Word"] {
+            assert!(uses.contains(&("frame", name)), "{name}");
+        }
+        assert!(uses.contains(&("clock", "Timer")));
     }
 
     #[test]
@@ -230,10 +280,10 @@ pub extern \"C\" fn out(
             .iter()
             .any(|token| token.text == "Count"));
         assert!(source.functions[0].parameters.contains("by"));
-        assert!(source.functions[2]
-            .contract
-            .iter()
-            .any(|token| token.text == "true"));
+        let out = &source.functions[2].contract;
+        let says = |word| out.iter().any(|token| token.text == word);
+        assert!(says("true") && says("block") && says("zero"));
+        assert!(!says("same") && !says("answer") && !says("0"));
         assert_eq!(source.imports[1].names[0].1, "next");
     }
 

@@ -100,7 +100,7 @@ mod tests {
     #[test]
     fn words_are_split_at_spaces_and_marks() {
         assert_eq!(
-            words("f (x .now) n+n"),
+            words("f (x.now) n+n"),
             ["f", "(", "x", ".", "now", ")", "n+n"]
         );
         assert_eq!(
@@ -108,7 +108,7 @@ mod tests {
             ["le-trans", "{", "A", "=", "ℕ", "}"]
         );
         assert_eq!(words("--"), [""; 0]);
-        assert_eq!(words("(«max len» .0)"), ["(", "max len", ".", "0", ")"]);
+        assert_eq!(words("(«max len».0)"), ["(", "max len", ".", "0", ")"]);
     }
 
     #[test]
@@ -120,7 +120,7 @@ mod tests {
                 .collect::<Vec<_>>()
         };
         assert_eq!(tight("box.Lent"), [false, true, true]);
-        assert_eq!(tight("r .next"), [false, false, true]);
+        assert_eq!(tight("r.next"), [false, true, true]);
         assert_eq!(tight("λ x. y"), [false, false, true, false]);
     }
 

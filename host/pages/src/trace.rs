@@ -116,7 +116,7 @@ mod tests {
         let mut tree = Tree::new("clock:\n");
         tree.add(
             "crates/clock/specs/Counts.antt",
-            "pub isPast : A\nisPast = x\n",
+            "pub is_past : A\nis_past = x\n",
         );
         let code = "pub struct Count(pub u32);\nimpl Count {\n    pub fn next() {\n    }\n}\n";
         tree.add("crates/clock/src/lib.rt", code);
@@ -132,9 +132,12 @@ mod tests {
 
     #[test]
     fn what_is_there_is_silent() {
-        let text = "| R1 | here | `clock::isPast`, `clock::Count` | `clock::now_is_past` |\n| R2 | there | none: a unit | none: no `code` |\n";
+        let text = "| R1 | here | `clock::is_past`, `clock::Count` | `clock::now_is_past` |\n| R2 | there | none: a unit | none: no `code` |\n";
         assert_eq!(errors(text), [""; 0]);
-        assert_eq!(errors(&text.replace("isPast", "Count::next")), [""; 0]);
+        assert_eq!(
+            errors(&text.replace("clock::is_past", "clock::Count::next")),
+            [""; 0]
+        );
     }
 
     #[test]
@@ -146,12 +149,12 @@ mod tests {
 
     #[test]
     fn each_fault_has_its_line() {
-        let text = "| R1 | | `clock::isFuture` | `clock::nobody` |\n| R1 | here | | none |\n| R3 | x | none: y |\n";
+        let text = "| R1 | | `clock::is_future` | `clock::nobody` |\n| R1 | here | | none |\n| R3 | x | none: y |\n";
         assert_eq!(
             errors(text),
             [
                 "docs/TRACE.md:3: R1 has no place",
-                "docs/TRACE.md:3: R1: there is no definition `clock::isFuture`",
+                "docs/TRACE.md:3: R1: there is no definition `clock::is_future`",
                 "docs/TRACE.md:3: R1: there is no wrong answer `clock::nobody`",
                 "docs/TRACE.md:4: R1 has a row already, line 3",
                 "docs/TRACE.md:4: R1 names no definition: `crate::name`, or none: and why",

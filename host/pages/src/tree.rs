@@ -68,6 +68,8 @@ impl Tree {
             if let Some(title) = line.strip_prefix("# ") {
                 tree.families.push((title.to_string(), Vec::new()));
             } else if let Some((name, needs)) = line.split_once(':') {
+                // Behind the name may stand what kind of crate it is.
+                let name = name.split_whitespace().next().unwrap_or("");
                 let needs = needs.split_whitespace().map(str::to_string);
                 tree.crates.push((name.to_string(), needs.collect()));
                 if let Some((_, members)) = tree.families.last_mut() {
@@ -113,6 +115,11 @@ impl Tree {
         self.files.iter().position(|file| file.path == path)
     }
 
+    /// Whether there is such a crate.
+    pub fn has(&self, owner: &str) -> bool {
+        self.crates.iter().any(|(name, _)| name == owner)
+    }
+
     /// These crates and those that they rest on.
     pub fn below(&self, tops: &BTreeSet<String>) -> BTreeSet<String> {
         let mut found = tops.clone();
@@ -124,6 +131,9 @@ impl Tree {
         found
     }
 }
+
+/// Lists of pages, and the proof of a function.
+const PASSED_BY: [&str; 4] = ["Lib.antt", "Answers.antt", "Invariants.antt", "Proof.antt"];
 
 fn walk(folder: &Path, found: &mut Vec<PathBuf>) -> io::Result<()> {
     if !folder.is_dir() {
@@ -139,7 +149,7 @@ fn walk(folder: &Path, found: &mut Vec<PathBuf>) -> io::Result<()> {
         let text = name.ends_with(".antt") || name.ends_with(".rt");
         if path.is_dir() {
             walk(&path, found)?;
-        } else if text && name != "Proof.antt" && name != "Lib.antt" {
+        } else if text && !PASSED_BY.contains(&name.as_str()) {
             found.push(path);
         }
     }
@@ -151,7 +161,7 @@ mod tests {
     use super::*;
 
     fn tree() -> Tree {
-        let mut tree = Tree::new("# base\nclock:\nframe: clock\nother: clock\n");
+        let mut tree = Tree::new("# base\nclock:\nframe: clock\nother staticlib: clock\n");
         tree.add("crates/clock/specs/Counts.antt", "-- Rule R1: counts.\n");
         tree.add("crates/clock/proofs/Deep/Laws.antt", "");
         tree.add("crates/clock/src/lib.rt", "pub struct Count(pub u32);\n");

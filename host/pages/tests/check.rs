@@ -33,7 +33,7 @@ fn tree() -> Tree {
 
 /// The same with a change of the text.
 fn tree_with(from: &str, to: &str) -> Tree {
-    let mut tree = Tree::new("clock:\ncrustnewt: clock\n");
+    let mut tree = Tree::new("clock:\ncrustnewt staticlib: clock\n");
     for (path, text) in FILES {
         let text = if from.is_empty() {
             text.into()
@@ -110,7 +110,7 @@ fn a_page_that_nothing_reaches() {
     assert!(found
         .contains(&"docs/READING.md:21: nothing reaches crates/clock/specs/Stated.antt".into()));
     assert!(found.contains(
-        &"crates/clock/specs/Counts.antt:15: `isPast` is not reached, and its page is listed"
+        &"crates/clock/specs/Counts.antt:15: `is_past` is not reached, and its page is listed"
             .into()
     ));
     let found = errors(statement, "`Nobody`");
@@ -124,12 +124,12 @@ fn a_page_that_nothing_reaches() {
 fn what_stands_beside() {
     let list = LIST
         .replace("`AllLater`", "")
-        .replace("| counts |", "| counts. Beside: `isPast` |");
+        .replace("| counts |", "| counts. Beside: `is_past` |");
     let found = errors_in(&tree(), &list);
-    assert!(!found.iter().any(|error| error.contains("isPast")));
-    let found = errors("| counts |", "| counts. Beside: `isPast` |");
+    assert!(!found.iter().any(|error| error.contains("is_past")));
+    let found = errors("| counts |", "| counts. Beside: `is_past` |");
     let gone =
-        "docs/READING.md:20: crates/clock/specs/Counts.antt has no `isPast` that nothing reaches";
+        "docs/READING.md:20: crates/clock/specs/Counts.antt has no `is_past` that nothing reaches";
     assert_eq!(found, [gone]);
 }
 
@@ -180,7 +180,7 @@ fn ties_are_held() {
         found[..2],
         [
             "docs/READING.md:14: clock::all-later doesn't say clock::counted",
-            "docs/READING.md:14: clock::all-later doesn't say clock::nextOf",
+            "docs/READING.md:14: clock::all-later doesn't say clock::next_of",
         ]
     );
     let found = errors("`counts`", "`nothing`");
@@ -212,26 +212,26 @@ fn types_are_held() {
 
 #[test]
 fn what_is_not_sure_is_told() {
-    let at = "crates/clock/specs/Counts.antt:15: `isPast`";
+    let at = "crates/clock/specs/Counts.antt:15: `is_past`";
     let hidden = tree_with(
-        "isPast now c = ltb (c .0) now",
-        "isPast plus c = ltb (c .0) plus",
+        "is_past now c = ltb c.0 now",
+        "is_past plus c = ltb c.0 plus",
     );
     assert_eq!(
         errors_in(&hidden, LIST),
         [format!("{at} binds `plus`, the name of a declaration")]
     );
-    let unknown = tree_with("ltb (c .0) now", "ltx (c .0) now");
+    let unknown = tree_with("ltb c.0 now", "ltx c.0 now");
     assert_eq!(
         errors_in(&unknown, LIST),
         [format!("{at} mentions `ltx`, which nothing brings in")]
     );
-    let missing = tree_with("Counts.{isPast}", "Counts.{isPast, isFuture}");
+    let missing = tree_with("Counts.{is_past}", "Counts.{is_past, is_future}");
     let at = "crates/clock/specs/Stated.antt:5";
     assert_eq!(
         errors_in(&missing, LIST),
         [format!(
-            "{at}: there is no Rattle·clock·specs.specs.Counts.isFuture"
+            "{at}: there is no Rattle.clock.specs.Counts.is_future"
         )]
     );
 }

@@ -155,6 +155,7 @@ fn examples_print_what_was_worked_out() {
         example!("first-night"),
         example!("queue-lengths"),
         example!("lingering-light"),
+        example!("past-grants"),
         (block("replay"), block("answers")),
     ] {
         for (core, make) in CORES {

@@ -1,8 +1,10 @@
 //! Cases that don't rest on chance: every state with every message, every
-//! timer at its ends, every kind of address, every length of output.
+//! timer at its ends, every kind of address, every length of output, every
+//! short list of grants.
 
 mod advances;
 mod fading;
+mod leaving;
 mod reports;
 
 use super::messages::octets;
@@ -35,6 +37,8 @@ pub(crate) fn cases() -> Vec<(&'static str, Vec<String>)> {
         ("one grant behind another", fading::one_behind_another()),
         ("lengths that are needed", fading::around_needed()),
         ("fading worked out", fading::worked()),
+        ("grants that leave a short list", leaving::of_few()),
+        ("grants that leave a long list", leaving::of_many()),
         ("advances of the box", advances::of_boxes()),
         ("advances of the head", advances::of_heads()),
         ("advances worked out", advances::worked()),
@@ -112,6 +116,19 @@ fn box_in(state: BoxState, light: Light) -> FloorBox {
         sync: 2,
         light,
         grants,
+    }
+}
+
+/// A box with timers that don't end, at rest and without a grant.
+fn quiet(count: u32, state: BoxState, sync: u32) -> FloorBox {
+    let registered = state == BoxState::Registered;
+    FloorBox {
+        count: Count(count),
+        watchdog: if registered { 62_500_000 } else { 0 },
+        report: if registered { 3_125_000 } else { 0 },
+        sync,
+        grants: GrantList::new(),
+        ..box_in(state, Light::Rest)
     }
 }
 

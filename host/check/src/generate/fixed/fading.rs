@@ -2,22 +2,13 @@
 //! that start around another's end, lengths around the needed one; and the
 //! cases that the rule's own page works out.
 
-use super::{bodies, box_in, box_lines, digits, stamped, BOX_STATES};
-use super::{Address, Body, BoxState, Count, FloorBox, Gate, Grant, GrantList};
-use super::{Granted, Light, BOX, HEAD};
+use super::{bodies, box_in, box_lines, digits, quiet, stamped, BOX_STATES};
+use super::{Address, Body, BoxState, Count, Gate, Grant, Granted, Light, BOX, HEAD};
 use plain::numbers::{needed_length, LONGEST};
 
-/// A box with timers that don't end, at rest.
-fn quiet(count: u32, state: BoxState, sync: u32) -> Vec<String> {
-    let registered = state == BoxState::Registered;
-    box_lines(&FloorBox {
-        count: Count(count),
-        watchdog: if registered { 62_500_000 } else { 0 },
-        report: if registered { 3_125_000 } else { 0 },
-        sync,
-        grants: GrantList::new(),
-        ..box_in(state, Light::Rest)
-    })
+/// The lines that set a quiet box.
+fn quiet_lines(count: u32, state: BoxState, sync: u32) -> Vec<String> {
+    box_lines(&quiet(count, state, sync))
 }
 
 fn granted(start: u32, length: u32) -> Granted {
@@ -79,7 +70,7 @@ pub(super) fn one_behind_another() -> Vec<String> {
     let mut script = Vec::new();
     for start in 337..=371 {
         let grants = [granted(220, 150), granted(start, 116)];
-        script.extend(quiet(100, BoxState::Registered, 10));
+        script.extend(quiet_lines(100, BoxState::Registered, 10));
         script.push(hear_gate(100, &grants));
         // As far as the next notice: open, close, open, close; then to rest.
         script.extend(["box advance 200"; 5].map(str::to_owned));
@@ -95,11 +86,11 @@ pub(super) fn around_needed() -> Vec<String> {
         let needed = needed_length(sync);
         let lengths = [needed - 33, needed - 32, needed - 1, needed, needed + 1];
         for length in lengths.map(|length| length.min(LONGEST)) {
-            script.extend(quiet(0, BoxState::Registered, sync));
+            script.extend(quiet_lines(0, BoxState::Registered, sync));
             script.push(hear_gate(0, &[granted(9, length)]));
             script.push("box tick 70000".to_owned());
             for random in [0, 1, 33, u32::MAX] {
-                script.extend(quiet(0, BoxState::Registering, 0));
+                script.extend(quiet_lines(0, BoxState::Registering, 0));
                 script.push(hear_discovery(random, 0, granted(9, length), sync));
                 script.push("box tick 70000".to_owned());
             }
@@ -115,14 +106,14 @@ pub(super) fn around_needed() -> Vec<String> {
 pub(super) fn worked() -> Vec<String> {
     let mut script = Vec::new();
     for (second, ticks) in [(1300, 600), (1299, 600), (1300, 280)] {
-        script.extend(quiet(1000, BoxState::Registered, 10));
+        script.extend(quiet_lines(1000, BoxState::Registered, 10));
         script.push(hear_gate(1000, &[granted(1100, 200), granted(second, 200)]));
         script.push(format!("box tick {ticks}"));
     }
     script.extend(["box deregister", "box register"].map(str::to_owned));
     script.push(hear_discovery(7, 1280, granted(1280, 106), 0));
     for (length, random) in [(174, 250), (174, 101), (106, 250), (105, 250)] {
-        script.extend(quiet(1000, BoxState::Registering, 0));
+        script.extend(quiet_lines(1000, BoxState::Registering, 0));
         script.push(hear_discovery(random, 1000, granted(2000, length), 0));
         script.push("box tick 1300".to_owned());
     }
