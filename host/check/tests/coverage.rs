@@ -64,6 +64,12 @@ fn cases_reach_every_answer() {
 /// would have answered the box.
 type Met = HashSet<String>;
 
+#[track_caller]
+fn all_met(met: &Met, mut expected: Vec<String>) {
+    expected.retain(|expected| !met.contains(expected));
+    assert!(expected.is_empty(), "no case has: {expected:?}");
+}
+
 fn meet(met: &mut Met, call: &str, source: Address, numbers: [u8; 2]) {
     let kind = match source.0 {
         0 => "zero",
@@ -201,9 +207,7 @@ fn cases_reach_every_kind_of_source() {
             expected.push(format!("{call} from {source}: 4, else 0"));
         }
     }
-    let met = sources(1600);
-    expected.retain(|expected| !met.contains(expected));
-    assert!(expected.is_empty(), "no case has: {expected:?}");
+    all_met(&sources(1600), expected);
 }
 
 /// Of a body: how many octets number and sets take, `past` where they run past
@@ -311,9 +315,7 @@ fn cases_reach_every_end_of_queue_sets() {
         expected.push(format!("read {taken} and pad: 0"));
         expected.push(format!("write {taken} and pad: 4"));
     }
-    let met = reports(6400);
-    expected.retain(|expected| !met.contains(expected));
-    assert!(expected.is_empty(), "no case has: {expected:?}");
+    all_met(&reports(6400), expected);
 }
 
 /// What a call does to this box, and its reply number; of ticks the first, and
@@ -449,8 +451,7 @@ fn cases_reach_whatever_comes_while_light_fades() {
             expected.push(format!("{state:?} fades, {left} left: 0"));
         }
     }
-    expected.retain(|expected| !met.contains(expected));
-    assert!(expected.is_empty(), "no case has: {expected:?}");
+    all_met(&met, expected);
 }
 
 /// How many grants a box at rest holds, and which of them are past when the
@@ -501,6 +502,5 @@ fn cases_reach_past_grants_wherever_they_stand() {
         let which = PAST.iter().take(if held == 1 { 2 } else { PAST.len() });
         expected.extend(which.map(|which| format!("{held} held, past: {which}")));
     }
-    expected.retain(|expected| !met.contains(expected));
-    assert!(expected.is_empty(), "no case has: {expected:?}");
+    all_met(&met, expected);
 }
