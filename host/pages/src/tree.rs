@@ -133,7 +133,7 @@ impl Tree {
 }
 
 /// Lists of pages, and the proof of a function.
-const PASSED_BY: [&str; 4] = ["Lib.antt", "Answers.antt", "Invariants.antt", "Proof.antt"];
+const PASSED_BY: [&str; 3] = ["Lib.antt", "Answers.antt", "Invariants.antt"];
 
 fn walk(folder: &Path, found: &mut Vec<PathBuf>) -> io::Result<()> {
     if !folder.is_dir() {
