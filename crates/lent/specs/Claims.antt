@@ -1,6 +1,6 @@
--- Statement: a function that is walked by hand has no module `Reads` to state its promise of, as `Settles` of laws does for the others; but
--- Rattle reads its `clauses` off the source all the same. What they claim is written out, checked to be what they claim, and shown to settle
--- the answer.
+-- Statement: what the clauses of a function over lent slices of links claim. The toolchain that these were written for made no module `Reads` of
+-- such a function, to state its promise of as `Settles` of laws does for the others; but it read the `clauses` off the source all the same. The
+-- claim is written out, checked to be what they claim, and shown to settle the answer.
 -- Assumes nothing.
 use Rattle.std.specs.Prelude.{◌≡◌}
 use seplogic.Ra.Ura.{Ura}
