@@ -40,8 +40,6 @@ use Rattle.clock.proofs.Timer.runs.Kinds as runs-kinds
 use Rattle.clock.proofs.Timer.runs.Reads as runs-reads
 use Rattle.clock.proofs.Count.start_in_range.Kinds as start-in-range-kinds
 use Rattle.clock.proofs.Count.start_in_range.Reads as start-in-range
-use Rattle.clock.proofs.least.Kinds as least-kinds
-use Rattle.clock.proofs.least.Reads as least-reads
 use Rattle.clock.proofs.in_reach.Kinds as in-reach-kinds
 use Rattle.clock.proofs.in_reach.Reads as in-reach-reads
 use Rattle.clock.proofs.passing.Kinds as passing-kinds
@@ -109,9 +107,6 @@ runs-settles κs a e x y p q = p ∙ sym q
 
 pub start-in-range-settles : Settles 0 start-in-range-kinds.ps start-in-range-kinds.r start-in-range.Post
 start-in-range-settles κs a e x y p q = p ∙ sym q
-
-pub least-settles : Settles 0 least-kinds.ps least-kinds.r least-reads.Post
-least-settles κs a e x y p q = p ∙ sym q
 
 pub in-reach-settles : Settles 0 in-reach-kinds.ps in-reach-kinds.r in-reach-reads.Post
 in-reach-settles κs a e x y p q = p ∙ sym q

@@ -1,14 +1,13 @@
 -- Lemmas: the laws by which proofs over natural numbers use the distances, lengths and timers of this crate.
 -- Assumes nothing.
-use Rattle.std.specs.Prelude.{◌≡◌, ℕ, suc, ◌+◌, ◌-◌, ◌*◌, ◌%◌, ◌^◌, ◌<◌, ◌≤◌, Bool, true, false, ◌≢◌, ℤ, pos, negsuc, ◌==◌, nat_le, nat_lt, refl}
+use Rattle.std.specs.Prelude.{Option, None, Some, ◌≡◌, ℕ, suc, ◌+◌, ◌-◌, ◌*◌, ◌%◌, ◌^◌, ◌<◌, ◌≤◌, Bool, true, false, ◌≢◌, ℤ, pos, negsuc, ◌==◌, nat_le, nat_lt, refl}
 use Rattle.std.proofs.Common.{◌∙◌, sym, ap, true≢false, ⊎_elim, arith}
 use Rattle.std.proofs.lemmas.Bool.{false≢true}
 use Rattle.std.proofs.Math.Bool.{and-eq-true_iff}
 use borrow.Author.Tests.{lt-ltb, le-ltb, lt-leb, le-leb, leb-true, eq-eqb, ne_eqb, eqb-true, eqb-false}
 use Rattle.laws.specs.Cases.{cut}
 use Rattle.clock.specs.declared.Count.{Count}
-use Rattle.clock.specs.declared.Reach.{Reach}
-use Rattle.clock.specs.declared.Reach.TheVariants.{Past, Ahead}
+use Rattle.clock.specs.declared.Quanta.{Quanta}
 use Rattle.clock.specs.declared.Timer.{Timer}
 use Rattle.clock.specs.Counts.{next_of, later_of, gap, distance, is_past, nearer, reach}
 use Rattle.clock.specs.Numbers.{furthest, furthest_advance, is_in_reach, start_in_range, quanta_of}
@@ -36,7 +35,7 @@ module _ (a b : ℕ) where
     unfolding is_past
     is_past-near = rw distance-near (le-ltb (gap a b) 0 (omega arith))
 
-    pub reach_near : reach a b ≡ Ahead (record { 0 = gap a b })
+    pub reach_near : reach a b ≡ Some (record { 0 = gap a b })
     unfolding reach
     reach_near = rw distance-near
 
@@ -50,7 +49,7 @@ module _ (a b : ℕ) where
     unfolding is_past
     is_past-far = rw distance-far
 
-    pub reach_far : reach a b ≡ Past
+    pub reach_far : reach a b ≡ None
     unfolding reach
     reach_far = rw distance-far
 
@@ -101,9 +100,9 @@ start-gap now start =
     (λ h. rw (distance-far now start h, lt-leb (gap now start) furthest (omega arith)))
 
 -- and by where it stands, as the code tells it
-abbrev pub reach_in_range : Reach → Bool
-reach_in_range (Ahead wait) = nat_le wait.0 furthest
-reach_in_range Past = false
+abbrev pub reach_in_range : Option Quanta → Bool
+reach_in_range (Some wait) = nat_le wait.0 furthest
+reach_in_range None = false
 
 pub start-reach : (now start : ℕ) → start_in_range now start ≡ reach_in_range (reach now start)
 start-reach now start =

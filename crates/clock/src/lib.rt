@@ -7,57 +7,33 @@ ghost use Rattle.clock.specs.Numbers.{start_in_range, is_in_reach, fits, needed}
 ghost use Rattle.clock.specs.Spans.{none, same, nearer_of};
 ghost use Rattle.clock.specs.Timers.{stopped, off, runs, ticked, passed_of, quiet_of};
 
-// The smaller of two numbers.
-pub fn least(a: u32, b: u32) -> u32
-    ensures { result ≡ min a b }
-{
-    if a < b {
-        return a;
-    }
-    b
-}
-
 // A call advances by 1 to 65,536 ticks.
 pub fn in_reach(n: u64) -> bool
     ensures { result ≡ is_in_reach n }
 {
-    (1 <= n) & (n <= Timer::FURTHEST_ADVANCE as u64)
+    (1..=u64::from(Timer::FURTHEST_ADVANCE)).contains(&n)
 }
 
 // How many of n ticks are passed before the last one, which is made: no more than are quiet.
 pub fn passing(quiet: u32, n: u64) -> u32
     ensures { result ≡ min quiet (n - 1) }
 {
-    if n == 0 {
-        return 0;
-    }
-    let most = n - 1;
-    if (quiet as u64) < most {
-        return quiet;
-    }
-    most as u32
+    u64::from(quiet).min(n.saturating_sub(1)) as u32
 }
 
 // A reading of the 32-bit counter.
-#[derive(Clone, Copy)]
+#[derive(Clone, Copy, PartialEq, Eq)]
 pub struct Count(pub u32);
 
 // A length: a number of quanta.
-#[derive(Clone, Copy)]
+#[derive(Clone, Copy, PartialEq, Eq, PartialOrd, Ord)]
 pub struct Quanta(pub u32);
 
 // What is kept of a grant.
-#[derive(Clone, Copy)]
+#[derive(Clone, Copy, PartialEq, Eq)]
 pub struct Span {
     pub start: Count,
     pub length: Quanta,
-}
-
-// A count seen from now: its distance is a length unless it is past.
-#[derive(Clone, Copy)]
-pub enum Reach {
-    Past,
-    Ahead(Quanta),
 }
 
 impl Quanta {
@@ -74,18 +50,15 @@ impl Quanta {
     pub fn fits(self) -> bool
         ensures { result ≡ fits self }
     {
-        let most = Quanta::MOST;
-        self.0 <= most.0
+        self <= Quanta::MOST
     }
 
     // The length that a grant needs, with this sync time.
     pub fn needed(sync: Quanta) -> u64
         ensures { result ≡ needed sync.0 }
     {
-        let on = Quanta::LASER_ON;
-        let frame = Quanta::FRAME;
-        let off = Quanta::LASER_OFF;
-        on.0 as u64 + sync.0 as u64 + frame.0 as u64 + off.0 as u64
+        let lasers = u64::from(Quanta::LASER_ON.0) + u64::from(Quanta::LASER_OFF.0);
+        lasers + u64::from(sync.0) + u64::from(Quanta::FRAME.0)
     }
 }
 
@@ -103,21 +76,21 @@ impl Count {
     pub fn next(self) -> Count
         ensures { result ≡ next_of self }
     {
-        Count(std::num::wrapping_add_u32(self.0, 1))
+        Count(self.0.wrapping_add(1))
     }
 
     // So many quanta later.
     pub fn later(self, k: u32) -> Count
         ensures { result ≡ later_of self k }
     {
-        Count(std::num::wrapping_add_u32(self.0, k))
+        Count(self.0.wrapping_add(k))
     }
 
     // The distance from this count to another, in -2^31 .. 2^31 - 1.
     pub fn distance(self, to: Count) -> i64
         ensures { result ≡ distance self.0 to.0 }
     {
-        let d = std::num::wrapping_sub_u32(to.0, self.0);
+        let d = to.0.wrapping_sub(self.0);
         if d < Count::HALF {
             return d as i64;
         }
@@ -128,41 +101,33 @@ impl Count {
     pub fn is_past(self, at: Count) -> bool
         ensures { result ≡ is_past self.0 at.0 }
     {
-        let d = self.distance(at);
-        d < 0
+        self.distance(at) < 0
     }
 
     // Whether `a` is nearer than `b`, seen from this count.
     pub fn nearer(self, a: Count, b: Count) -> bool
         ensures { result ≡ nearer self.0 a.0 b.0 }
     {
-        let x = self.distance(a);
-        let y = self.distance(b);
-        x < y
+        self.distance(a) < self.distance(b)
     }
 
     // Past, or how far ahead, seen from this count.
-    pub fn reach(self, at: Count) -> Reach
+    pub fn reach(self, at: Count) -> Option<Quanta>
         ensures { result ≡ reach self.0 at.0 }
     {
         let d = self.distance(at);
         if d < 0 {
-            return Reach::Past;
+            return None;
         }
-        Reach::Ahead(Quanta(d as u32))
+        Some(Quanta(d as u32))
     }
 
     // A grant that starts then may be taken now.
     pub fn start_in_range(self, start: Count) -> bool
         ensures { result ≡ start_in_range self.0 start.0 }
     {
-        match self.reach(start) {
-            Reach::Past => false,
-            Reach::Ahead(wait) => {
-                let furthest = Count::FURTHEST;
-                wait.0 <= furthest.0
-            }
-        }
+        self.reach(start)
+            .is_some_and(|wait| wait <= Count::FURTHEST)
     }
 
     // The box's drift: how far the timestamp is from its own count.
@@ -198,11 +163,7 @@ impl Span {
     pub fn same(self, other: Span) -> bool
         ensures { result ≡ same self other }
     {
-        let a = self.start;
-        let b = other.start;
-        let m = self.length;
-        let n = other.length;
-        (a.0 == b.0) & (m.0 == n.0)
+        self == other
     }
 
     // The nearer of two, and of two that are as near this one.
@@ -264,16 +225,17 @@ impl Timer {
     pub fn tick(self) -> Ticked
         ensures { result ≡ ticked self }
     {
-        let left = self.left;
-        if left == 0 {
+        if self.left == 0 {
             return Ticked {
                 timer: self,
                 rang: false,
             };
         }
         Ticked {
-            timer: Timer { left: left - 1 },
-            rang: left == 1,
+            timer: Timer {
+                left: self.left - 1,
+            },
+            rang: self.left == 1,
         }
     }
 
@@ -281,22 +243,19 @@ impl Timer {
     pub fn passed(self, k: u32) -> Timer
         ensures { result ≡ passed_of self k }
     {
-        let left = self.left;
-        if left < k {
-            return Timer { left: 0 };
+        Timer {
+            left: self.left.saturating_sub(k),
         }
-        Timer { left: left - k }
     }
 
     // How many ticks come before the one at which it rings; a stopped timer never rings.
     pub fn quiet(self) -> u32
         ensures { result ≡ quiet_of self }
     {
-        let left = self.left;
-        if left == 0 {
+        if self.left == 0 {
             return Timer::FURTHEST_ADVANCE;
         }
-        left - 1
+        self.left - 1
     }
 
     pub fn off(self) -> bool
@@ -309,7 +268,6 @@ impl Timer {
     pub fn runs(self, most: Quanta) -> bool
         ensures { result ≡ runs self most.0 }
     {
-        let left = self.left;
-        1 <= left && left <= most.0
+        (1..=most.0).contains(&self.left)
     }
 }

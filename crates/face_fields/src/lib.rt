@@ -10,10 +10,7 @@ use clock::{Count, Quanta, Span, Timer};
 pub fn short_of(word: u64) -> u16
     ensures { result ≡ short_of word }
 {
-    if word < 65535 {
-        return word as u16;
-    }
-    65535
+    u16::try_from(word).unwrap_or(u16::MAX)
 }
 
 pub fn count_of(word: u64) -> Count
@@ -41,9 +38,7 @@ pub fn timer_of(word: u64) -> Timer
 pub fn span_word(span: Span) -> u64
     ensures { result ≡ span_word span }
 {
-    let start = span.start;
-    let length = span.length;
-    face_words::join(start.0, length.0)
+    face_words::join(span.start.0, span.length.0)
 }
 
 pub fn span_of(word: u64) -> Span

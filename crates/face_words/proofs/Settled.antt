@@ -10,10 +10,6 @@ use Rattle.face_words.proofs.lay.Kinds as lay-kinds
 use Rattle.face_words.proofs.lay.Reads as lay
 use Rattle.face_words.proofs.lay_word.Kinds as lay-word-kinds
 use Rattle.face_words.proofs.lay_word.Reads as lay-word
-use Rattle.face_words.proofs.least.Kinds as least-kinds
-use Rattle.face_words.proofs.least.Reads as least
-use Rattle.face_words.proofs.less.Kinds as less-kinds
-use Rattle.face_words.proofs.less.Reads as less
 use Rattle.face_words.proofs.lower.Kinds as lower-kinds
 use Rattle.face_words.proofs.lower.Reads as lower
 use Rattle.face_words.proofs.narrow.Kinds as narrow_kinds
@@ -24,12 +20,6 @@ use Rattle.face_words.proofs.same.Kinds as same-kinds
 use Rattle.face_words.proofs.same.Reads as same
 use Rattle.face_words.proofs.upper.Kinds as upper-kinds
 use Rattle.face_words.proofs.upper.Reads as upper
-
-pub least-settles : Settles 0 least-kinds.ps least-kinds.r least.Post
-least-settles κs a e x y p q = p ∙ sym q
-
-pub less-settles : Settles 0 less-kinds.ps less-kinds.r less.Post
-less-settles κs a e x y p q = p ∙ sym q
 
 pub lay-settles : SettlesLent 2 lay-kinds.ps lay-kinds.r (λ κs e. e.1.0.now) lay.Post
 lay-settles κs a e f x y p q = (refl, p ∙ sym q)

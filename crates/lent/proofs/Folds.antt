@@ -3,18 +3,11 @@
 --     fold_to g k xs i s  the state s after g of each of the first i elements in turn
 -- Assumes nothing.
 use mathlib.Core.Path.{◌≡◌, refl, sym, ap, ◌∙◌}
-use mathlib.Core.Bool.{Bool, true, false}
-use mathlib.Core.Logic.{◌⊎◌, inl, inr}
-use mathlib.Core.WellFounded.InvImage
-use mathlib.Core.WellFounded.{WellFounded}
-use Prim.Native.Nat.{ℕ, zero, suc, ◌+◌, ◌-◌, ◌≤◌, ◌<◌}
+use Prim.Native.Nat.{ℕ, zero, suc, ◌+◌, ◌≤◌, ◌<◌}
 use native.Mathlib.Nat.{not-suc-le-zero, le_of_suc-le-suc}
 use native.Mathlib.Omega.{arith}
 use mathlib.Core.List.{List, [], ◌∷◌}
 use lib.ListN.{length, get_or, set, take}
-use lib.WfN.{lt-wf_rel}
-use lib.Dec.{ltb}
-use borrow.Author.Tests.{ltb-true, ltb-false}
 use Rattle.lent.specs.Folds.{each, places}
 
 shift : (i k : ℕ) → i + suc k ≡ suc i + k
@@ -101,23 +94,3 @@ module _ {X S : Type 0} (g : ℕ → X → S → S) where
   fold-take k [] (suc i) s = refl
   fold-take k (x ∷ xs) zero s = refl
   fold-take k (x ∷ xs) (suc i) s = fold-take (suc k) xs i (g k x s)
-
-  pub fold-keeps : (P : S → Type 0) (k : ℕ) (xs : List X) (s : S) → ((j : ℕ) (x : X) (t : S) → P t → P (g j x t)) → P s → (i : ℕ) → P (fold_to k xs i s)
-  unfolding fold_to
-  fold-keeps P k [] s h p i = p
-  fold-keeps P k (x ∷ xs) s h p zero = p
-  fold-keeps P k (x ∷ xs) s h p (suc i) = fold-keeps P (suc k) xs (g k x s) h (h k x s p) i
-
--- ---- the loop's test and its measure
-pub below_or_not : (i n : ℕ) → (i < n) ⊎ (n ≤ i)
-below_or_not i n = by-test (ltb i n) refl
-  where
-    by-test : (t : Bool) → ltb i n ≡ t → (i < n) ⊎ (n ≤ i)
-    by-test true e = inl (ltb-true i n e)
-    by-test false e = inr (ltb-false i n e)
-
-abbrev pub Nearer : ℕ → ℕ → ℕ → Type 0
-Nearer n j i = n - j < n - i
-
-pub nearer-wf : (n : ℕ) → WellFounded (Nearer n)
-nearer-wf n = InvImage.wf (λ (i : ℕ). n - i) lt-wf_rel.wf

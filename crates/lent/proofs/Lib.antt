@@ -1,4 +1,1 @@
 pub mod Folds
-pub mod Lending
-pub mod Relent
-pub mod Sharing

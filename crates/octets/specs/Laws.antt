@@ -1,8 +1,10 @@
 -- Lemmas: the laws of octets, each once for every width: a number and its octets go into each other and back.
 -- Assumes nothing.
-use Rattle.std.specs.Prelude.{ℕ, zero, suc, ◌+◌, ◌-◌, ◌*◌, ◌/◌, ◌%◌, ◌^◌, ◌≤◌, ◌<◌, ◌≡◌, refl, List, [], ◌∷◌, ◌++◌, length, get_or, take, drop, set, replicate}
-use Rattle.std.proofs.Common.{sym, ap, ◌∙◌, append-nil, append_assoc, add-mul, mul_assoc, mul_comm, add_assoc, pow-suc, add-zero, zero-add, suc-add, not-suc-le-zero, le_of_suc-le-suc, le_refl, arith, length-take, length-drop, drop-cons, lt-length-set, get_or-set_same, drop-set-lt, get_or-drop, get_or-take, take_all, take-add, drop-drop}
+use Rattle.std.specs.Prelude.{ℕ, zero, suc, ◌+◌, ◌-◌, ◌*◌, ◌/◌, ◌%◌, ◌^◌, ◌≤◌, ◌<◌, ◌≡◌, min, refl, List, [], ◌∷◌, ◌++◌, length, get_or, take, drop, set, replicate}
+use Rattle.std.proofs.Common.{sym, ap, ◌∙◌, ⊎_elim, append-nil, append_assoc, add-mul, mul_assoc, mul_comm, add_assoc, pow-suc, add-zero, zero-add, suc-add, not-suc-le-zero, le_of_suc-le-suc, le_refl, arith, length-take, length-drop, drop-cons, lt-length-set, get_or-set_same, drop-set-lt, get_or-drop, get_or-take, take_all, take-add, drop-drop}
 use Rattle.std.proofs.Math.Nat.{pow-le-pow_right}
+use Rattle.std.proofs.Math.Seq.{take-take}
+use Rattle.laws.specs.Cases.{cut}
 use Rattle.octets.specs.Octets.{onto, bytes, value_from, value, field_of, Octets}
 use Rattle.octets.specs.Over.{over}
 
@@ -156,6 +158,21 @@ octets-bytes (suc n) x t h i = octets-bytes n (x / 256) (x % 256 ∷ t) more i
     more zero = omega arith
     more (suc j) = h j
 
+-- the first of the first octets
+pub taken : (m n : ℕ) (l : List ℕ) → take m (take n l) ≡ take (min n m) l
+taken m n l =
+    ⊎_elim
+    (λ (h : n < m). let e : min n m ≡ n = omega arith in rw e (take_all m (take n l) (simp length-take (omega arith))))
+    (λ (h : m ≤ n). let e : min n m ≡ m = omega arith in rw e (take-take m n l h))
+    (cut n m)
+
+-- the number of a field is below the power for its width, also where the list has fewer octets
+pub field-under : (l : List ℕ) → Octets l → (a n : ℕ) → field_of l a n < 256 ^ n
+field-under l h a n =
+    let part = take n (drop a l) in
+    let below : value part < 256 ^ (0 + length part) = value-below part (octets-take n (drop a l) (octets-drop a l h)) 0 0 (omega arith) in
+    omega (arith, below, pow-le-pow_right {n = 256} (omega arith) {i = 0 + length part} {j = n} (omega (arith, length-take n (drop a l))))
+
 -- the octets of a field are the part that it was read from, and its number is below the power for its width
 module _ (l : List ℕ) (h : Octets l) (a n : ℕ) (k : a + n ≤ length l) where
   pub bytes-field : bytes n (field_of l a n) ≡ take n (drop a l)
@@ -164,9 +181,7 @@ module _ (l : List ℕ) (h : Octets l) (a n : ℕ) (k : a + n ≤ length l) wher
       ∙ bytes-value (take n (drop a l)) (octets-take n (drop a l) (octets-drop a l h))
 
   pub field_below : field_of l a n < 256 ^ n
-  field_below =
-      let e : 0 + length (take n (drop a l)) ≡ n = zero-add (length (take n (drop a l))) ∙ length_part l a n k in
-      rw e at (value-below (take n (drop a l)) (octets-take n (drop a l) (octets-drop a l h)) 0 0 (omega arith))
+  field_below = field-under l h a n
 
 -- two parts that meet are one
 pub join : (l : List ℕ) (a n m : ℕ) → take n (drop a l) ++ take m (drop (a + n) l) ≡ take (n + m) (drop a l)

@@ -39,21 +39,10 @@ end a b i met t ha hb e = sym (and-true met) ∙ (rw (← ha, drop-length a, ha,
 pub returns-then-a-b : goal.returns-then-a-b
 returns-then-a-b c = unlike c.args.a.now c.args.b.now c.if-a-b.true
 
-pub loop-i-init : goal.loop-i-init
-loop-i-init c = (omega arith, omega arith, refl)
-
 pub loop-i-preserved : goal.loop-i-preserved
 loop-i-preserved c =
-    let a = c.args.a.now in
-    let b = c.args.b.now in
-    let ha : c.loop-i.i < length a = omega arith in
-    let hb : c.loop-i.i < length b = omega arith in
-    (omega arith, c.loop-i.invariant.1, turn a b c.loop-i.i c.loop-i.met _ ha hb c.loop-i.invariant.2)
+    turn c.args.a.now c.args.b.now c.loop-i.i c.loop-i.met _ (omega arith) (omega arith) c.loop-i.invariant
 
 pub returns : goal.returns
 returns c =
-    let a = c.args.a.now in
-    let b = c.args.b.now in
-    let ha : length a ≡ c.loop-i.i = omega arith in
-    let hb : length b ≡ c.loop-i.i = omega arith in
-    end a b c.loop-i.i c.loop-i.met (same a b) ha hb c.loop-i.invariant.2
+    end c.args.a.now c.args.b.now c.loop-i.i c.loop-i.met _ (omega arith) (omega arith) c.loop-i.invariant

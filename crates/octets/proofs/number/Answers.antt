@@ -1,61 +1,35 @@
 -- `octets::number` meets its promise. The loop's invariant: what stands so far goes on, over the octets left, to the number of them all.
 -- Assumes nothing.
-use Prim.Native.Nat.{ℕ, ◌≤◌}
-use mathlib.Core.Path.{◌≡◌, refl}
-use mathlib.Core.List.{List}
-use native.Mathlib.Omega.{arith}
-use native.Mathlib.Numerals.{add-one}
-use lib.ListN.{length, take, length-take}
-use lib.Seq.{drop-length}
+use Rattle.std.proofs.Common.{ℕ, ◌<◌, ◌≡◌, [], add-one, arith, take, drop, drop-cons, drop_of_length-le}
+use Rattle.std.proofs.Math.Nat.{min_comm}
+use Rattle.std.proofs.lemmas.List.{take_min}
 use Rattle.octets.specs.Octets.{value_from}
-use Rattle.octets.specs.Laws.{grown, room, next-octet}
+use Rattle.octets.specs.Laws.{grown, room, octets-take}
 use Rattle.octets.proofs.number.Goals as goal
 
--- the octets that count are at most eight
-within : (l : List ℕ) {n : ℕ} → n ≡ length (take 8 l) → n ≤ 8
-within l e = omega (arith, length-take 8 l)
-
-pub loop-i-init : goal.loop-i-init
-loop-i-init c = (omega arith, omega arith, refl)
+octet : (c : goal.After-from) → c.from.result < 256
+octet c = rw c.from.ensures (octets-take c.min.result c.args.s.now (λ (k : ℕ). (c.type_inv.s k).fits) c.loop-b.b-index)
 
 pub overflow_mul-v : goal.overflow_mul-v
-overflow_mul-v c =
-    let l = c.args.s.now in
-    record { fits = omega (arith, room c.loop-i.v 0 c.loop-i.i _ c.loop-i.invariant.1 (omega arith) c.loop-i-test.true (within l c.width-n.ensures)) }
-
-pub bounds-s-i : goal.bounds-s-i
-bounds-s-i c =
-    let l = c.args.s.now in
-    omega (arith, length-take 8 l, c.width-n.ensures)
-
-pub overflow_cast-v : goal.overflow_cast-v
-overflow_cast-v c = omega (arith, c.shared_slice_known-in-loop-i-1.given c.loop-i.i)
+overflow_mul-v c = record { fits = omega (arith, room c.loop-b.v 0 c.loop-b.b-index 8 c.loop-b.invariant.1) }
 
 pub overflow_add-v : goal.overflow_add-v
-overflow_add-v c =
-    let l = c.args.s.now in
-    record { fits = room c.loop-i.v _ c.loop-i.i _ c.loop-i.invariant.1 (c.shared_slice_known-in-loop-i-1.given c.loop-i.i).fits c.loop-i-test.true (within l c.width-n.ensures) }
+overflow_add-v c = record { fits = room c.loop-b.v _ c.loop-b.b-index 8 c.loop-b.invariant.1 (octet c) (omega arith) (omega arith) }
 
-pub overflow_add-i : goal.overflow_add-i
-overflow_add-i c =
-    omega (arith, within c.args.s.now c.width-n.ensures)
-
-pub loop-i-smaller : goal.loop-i-smaller
-loop-i-smaller c = omega arith
-
-pub loop-i-preserved : goal.loop-i-preserved
+pub loop-b-preserved : goal.loop-b-preserved
 unfolding value_from
-loop-i-preserved c =
-    let l = c.args.s.now in
-    let step = next-octet l 8 c.loop-i.i (rw c.width-n.ensures at c.loop-i-test.true) in (
-      omega arith,
-      rw add-one (grown c.loop-i.v _ c.loop-i.i c.loop-i.invariant.1 (c.shared_slice_known-in-loop-i-1.given c.loop-i.i).fits),
-      rw add-one (rw step at c.loop-i.invariant.2),
+loop-b-preserved c =
+    let l = take c.min.result c.args.s.now in
+    let i = c.loop-b.b-index in (
+      c.loop-b.invariant.0,
+      rw add-one (grown c.loop-b.v _ i c.loop-b.invariant.1 (octet c)),
+      rw (add-one, c.from.ensures) (rw (drop-cons l i 0 c.loop-b-test.true) at c.loop-b.invariant.2),
     )
 
 pub returns : goal.returns
 unfolding value_from
 returns c =
     let l = c.args.s.now in
-    let all : c.loop-i.i ≡ length (take 8 l) = omega (arith, c.width-n.ensures) in
-    rw (all, drop-length (take 8 l)) at c.loop-i.invariant.2
+    let none : drop c.loop-b.b-index (take c.min.result l) ≡ [] = drop_of_length-le (take c.min.result l) c.loop-b-test.false in
+    let all : take c.min.result l ≡ take 8 l = rw (c.min.ensures, min_comm) (take_min 8 l) in
+    rw (none, all) at c.loop-b.invariant.2

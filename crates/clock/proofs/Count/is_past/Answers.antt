@@ -6,4 +6,4 @@ use Rattle.clock.proofs.Count.is_past.Goals as goal
 
 pub returns : goal.returns
 unfolding is_past
-returns c = rw (c.distance-d.ensures, read_back)
+returns c = rw (c.distance.ensures, read_back)

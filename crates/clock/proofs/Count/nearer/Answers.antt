@@ -6,4 +6,4 @@ use Rattle.clock.proofs.Count.nearer.Goals as goal
 
 pub returns : goal.returns
 unfolding nearer
-returns c = simp (c.distance-x.ensures, c.distance-y.ensures, read_back)
+returns c = simp (c.distance.ensures, c.distance-2.ensures, read_back)

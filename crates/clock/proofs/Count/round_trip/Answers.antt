@@ -3,9 +3,6 @@
 use Rattle.clock.proofs.Signed.{near-gap, near-casts, far-gap, far-fits, far-casts}
 use Rattle.clock.proofs.Count.round_trip.Goals as goal
 
-pub overflow_add-result : goal.overflow_add-result
-overflow_add-result c = far-fits _ _ _ c.distance-since.ensures c.if-since-lt0.true
-
 pub overflow_cast-result : goal.overflow_cast-result
 overflow_cast-result c = far-casts _ _ _ c.distance-since.ensures c.if-since-lt0.true
 

@@ -4,10 +4,10 @@ use Rattle.std.proofs.Common.{eq-eqb, ne_eqb}
 use Rattle.clock.specs.Timers.{ticked}
 use Rattle.clock.proofs.Timer.tick.Goals as goal
 
-pub returns-then-left-eq0 : goal.returns-then-left-eq0
+pub returns-then-self-eq0 : goal.returns-then-self-eq0
 unfolding ticked
-returns-then-left-eq0 c = rw (eq-eqb _ _ c.if-left-eq0.true)
+returns-then-self-eq0 c = rw (eq-eqb _ _ c.if-self-eq0.true)
 
 pub returns : goal.returns
 unfolding ticked
-returns c = rw (ne_eqb _ _ c.if-left-eq0.false)
+returns c = rw (ne_eqb _ _ c.if-self-eq0.false)
