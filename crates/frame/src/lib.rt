@@ -5,12 +5,13 @@ ghost use Rattle.std.specs.Prelude.{◌≡◌};
 ghost use Rattle.frame.specs.Card.{number_of};
 ghost use Rattle.frame.specs.Ways.{goes_to_head};
 ghost use Rattle.frame.specs.Layout.{register_req_flag, register_flag, register_ack_flag};
+ghost use Rattle.frame.specs.Flags.{register_req_flag_in, register_flag_in, register_ack_flag_in};
 
 use clock::{Count, Quanta};
 use frame_queues::Sets;
 
 // 48 bits, as a number.
-#[derive(Clone, Copy)]
+#[derive(Clone, Copy, PartialEq, Eq)]
 pub struct Address(pub u64);
 
 impl Address {
@@ -21,7 +22,7 @@ impl Address {
 }
 
 // Leave to send, and whether a REPORT must be sent in it.
-#[derive(Clone, Copy)]
+#[derive(Clone, Copy, PartialEq, Eq)]
 pub struct Grant {
     pub start: Count,
     pub length: Quanta,
@@ -38,57 +39,90 @@ pub enum Grants {
     Four(Grant, Grant, Grant, Grant),
 }
 
-#[derive(Clone, Copy)]
+#[derive(Clone, Copy, PartialEq, Eq)]
 pub enum RegisterReqFlag {
-    Register,
-    Deregister,
+    Register = 1,
+    Deregister = 3,
 }
 
 impl RegisterReqFlag {
     pub fn number(self) -> u8
         ensures { result ≡ register_req_flag self }
     {
-        match self {
-            RegisterReqFlag::Register => 1,
-            RegisterReqFlag::Deregister => 3,
+        self as u8
+    }
+}
+
+impl TryFrom<u64> for RegisterReqFlag {
+    type Error = Reply;
+
+    ghost try_from_gives = { λ number r. r ≡ register_req_flag_in number };
+
+    fn try_from(number: u64) -> Result<RegisterReqFlag, Reply> {
+        match number {
+            1 => Ok(RegisterReqFlag::Register),
+            3 => Ok(RegisterReqFlag::Deregister),
+            _ => Err(Reply::Range),
         }
     }
 }
 
-#[derive(Clone, Copy)]
+#[derive(Clone, Copy, PartialEq, Eq)]
 pub enum RegisterFlag {
-    Reregister,
-    Deregister,
-    Ack,
-    Nack,
+    Reregister = 1,
+    Deregister = 2,
+    Ack = 3,
+    Nack = 4,
 }
 
 impl RegisterFlag {
     pub fn number(self) -> u8
         ensures { result ≡ register_flag self }
     {
-        match self {
-            RegisterFlag::Reregister => 1,
-            RegisterFlag::Deregister => 2,
-            RegisterFlag::Ack => 3,
-            RegisterFlag::Nack => 4,
+        self as u8
+    }
+}
+
+impl TryFrom<u64> for RegisterFlag {
+    type Error = Reply;
+
+    ghost try_from_gives = { λ number r. r ≡ register_flag_in number };
+
+    fn try_from(number: u64) -> Result<RegisterFlag, Reply> {
+        match number {
+            1 => Ok(RegisterFlag::Reregister),
+            2 => Ok(RegisterFlag::Deregister),
+            3 => Ok(RegisterFlag::Ack),
+            4 => Ok(RegisterFlag::Nack),
+            _ => Err(Reply::Range),
         }
     }
 }
 
-#[derive(Clone, Copy)]
+#[derive(Clone, Copy, PartialEq, Eq)]
 pub enum RegisterAckFlag {
-    Nack,
-    Ack,
+    Nack = 0,
+    Ack = 1,
 }
 
 impl RegisterAckFlag {
     pub fn number(self) -> u8
         ensures { result ≡ register_ack_flag self }
     {
-        match self {
-            RegisterAckFlag::Nack => 0,
-            RegisterAckFlag::Ack => 1,
+        self as u8
+    }
+}
+
+impl TryFrom<u64> for RegisterAckFlag {
+    type Error = Reply;
+
+    ghost try_from_gives = { λ number r. r ≡ register_ack_flag_in number };
+
+    fn try_from(number: u64) -> Result<RegisterAckFlag, Reply> {
+        match number {
+            0 => Ok(RegisterAckFlag::Nack),
+            1 => Ok(RegisterAckFlag::Ack),
+            _ => Err(Reply::Range),
         }
     }
 }
@@ -135,26 +169,10 @@ impl Body {
     pub fn goes_to_head(self) -> bool
         ensures { result ≡ goes_to_head self }
     {
-        match self {
-            Body::Gate(_) => false,
-            Body::Discovery { grant: _, sync: _ } => false,
-            Body::Report(_) => true,
-            Body::RegisterReq {
-                flag: _,
-                pending: _,
-            } => true,
-            Body::Register {
-                port: _,
-                flag: _,
-                sync: _,
-                pending: _,
-            } => false,
-            Body::RegisterAck {
-                flag: _,
-                port: _,
-                sync: _,
-            } => true,
-        }
+        matches!(
+            self,
+            Body::Report(_) | Body::RegisterReq { .. } | Body::RegisterAck { .. }
+        )
     }
 }
 
@@ -175,23 +193,23 @@ impl Message {
 }
 
 // The service card: what every call of the product is answered with.
-#[derive(Clone, Copy)]
+#[derive(Clone, Copy, PartialEq, Eq)]
 pub enum Reply {
-    Done,
-    Size,
-    Kind,
-    Opcode,
-    Range,
-    Direction,
-    Link,
-    State,
-    Party,
-    Grant,
-    Held,
-    Full,
-    Output,
-    Unsound,
-    Window,
+    Done = 0,
+    Size = 1,
+    Kind = 2,
+    Opcode = 3,
+    Range = 4,
+    Direction = 5,
+    Link = 6,
+    State = 7,
+    Party = 8,
+    Grant = 9,
+    Held = 10,
+    Full = 11,
+    Output = 12,
+    Unsound = 13,
+    Window = 14,
 }
 
 impl Reply {
@@ -199,23 +217,7 @@ impl Reply {
     pub fn number(self) -> u8
         ensures { result ≡ number_of self }
     {
-        match self {
-            Reply::Done => 0,
-            Reply::Size => 1,
-            Reply::Kind => 2,
-            Reply::Opcode => 3,
-            Reply::Range => 4,
-            Reply::Direction => 5,
-            Reply::Link => 6,
-            Reply::State => 7,
-            Reply::Party => 8,
-            Reply::Grant => 9,
-            Reply::Held => 10,
-            Reply::Full => 11,
-            Reply::Output => 12,
-            Reply::Unsound => 13,
-            Reply::Window => 14,
-        }
+        self as u8
     }
 }
 

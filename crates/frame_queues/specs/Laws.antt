@@ -4,7 +4,7 @@ use Rattle.std.specs.Prelude.{ℕ, zero, suc, ◌-◌, ◌≤◌, ◌<◌, ◌�
 use Rattle.std.proofs.Common.{sym, ap, subst, ◌∙◌, append-nil, not-suc-le-zero, le_refl, arith, eqb-true, eq-eqb, length-take, length-drop, take-append-drop, get_or-take, take_all, take_at, drop_at}
 use Rattle.std.proofs.Math.Bool.{and-eq-true_iff}
 use Rattle.std.proofs.Math.Nat.{sub-zero, zero-sub, suc-sub-suc}
-use Rattle.std.proofs.lemmas.List.{length-replicate}
+use Rattle.std.proofs.lemmas.List.{length-replicate, drop-replicate}
 use Rattle.octets.specs.Octets.{onto, bytes, Octets}
 use Rattle.octets.specs.Laws.{value-bytes, bytes-field, field_below, join, octets-take, octets-append, octets-zeros, octets-bytes}
 use Rattle.frame_queues.specs.Asked.{padded}
@@ -67,11 +67,6 @@ cleared-all k l h =
     let none : length l - k ≡ 0 = omega arith in
     cleared-is k l ∙ rw none (append-nil (take k l) ∙ take_all k l h)
 
-pub drop-zeros : (n m : ℕ) → drop {A = ℕ} n (replicate m 0) ≡ replicate (m - n) 0
-drop-zeros zero m = ap (λ (k : ℕ). replicate k 0) (sym (sub-zero m))
-drop-zeros (suc n) zero = ap (λ (k : ℕ). replicate k 0) (sym (zero-sub (suc n)))
-drop-zeros (suc n) (suc m) = drop-zeros n m ∙ ap (λ (k : ℕ). replicate k 0) (sym (suc-sub-suc m n))
-
 cleared-none : (k : ℕ) → cleared k [] ≡ []
 cleared-none zero = refl
 cleared-none (suc k) = refl
@@ -79,7 +74,7 @@ cleared-none (suc k) = refl
 -- a part of it
 pub cleared-drop : (a k : ℕ) (l : List ℕ) → drop a (cleared k l) ≡ cleared (k - a) (drop a l)
 cleared-drop zero k l = ap (λ (n : ℕ). cleared n l) (sym (sub-zero k))
-cleared-drop (suc a) zero l = drop-zeros (suc a) (length l) ∙ rw (zero-sub, length-drop)
+cleared-drop (suc a) zero l = drop-replicate (suc a) (length l) 0 ∙ rw (zero-sub, length-drop)
 cleared-drop (suc a) (suc k) [] = sym (cleared-none (suc k - suc a))
 cleared-drop (suc a) (suc k) (x ∷ l) = cleared-drop a k l ∙ ap (λ (n : ℕ). cleared n (drop a l)) (sym (suc-sub-suc k a))
 

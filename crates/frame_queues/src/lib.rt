@@ -1,14 +1,14 @@
 // The queue sets of a REPORT: the forty octets of its body, held as five numbers.
 #![tactic(auto)]
 
-ghost use Rattle.std.specs.Prelude.{◌≡◌, ◌+◌, ◌-◌, ◌≤◌, ◌<◌, ◌∷◌, length, get_or};
-ghost use Rattle.octets.specs.Octets.{bytes, value, field_of};
+ghost use Rattle.std.specs.Prelude.{◌≡◌, ◌+◌, ◌≤◌, ◌<◌, ◌∷◌, length, get_or};
+ghost use Rattle.octets.specs.Octets.{bytes, value};
 ghost use Rattle.octets.specs.Over.{over};
-ghost use Rattle.frame_queues.specs.Queues.{past_of, used_of, cleared, forty_of, sets_of, same_sets, fits_sets, ends_at};
+ghost use Rattle.frame_queues.specs.Queues.{past_of, used_of, cleared, forty_of, sets_of, fits_sets, ends_at};
 ghost use Rattle.frame_queues.specs.Asked.{padded, asked_of};
 
 // Eight octets to each number, most significant first: how many sets, the sets, and zeros.
-#[derive(Clone, Copy)]
+#[derive(Clone, Copy, PartialEq, Eq)]
 pub struct Sets {
     pub first: u64,
     pub second: u64,
@@ -21,11 +21,10 @@ pub struct Sets {
 const BODY: usize = 40;
 
 // How many sets a body has: its first octet.
-fn count(s: &[u8]) -> usize
-    ensures value { result ≡ get_or s.now 0 0 }
-    ensures upper_bound { result < 256 }
+fn count(s: &[u8]) -> u8
+    ensures { result ≡ get_or s.now 0 0 }
 {
-    if 0 < s.len() { s[0] as usize } else { 0 }
+    s.first().copied().unwrap_or(0)
 }
 
 // Where the set ends whose bitmap stands at `at`.
@@ -34,10 +33,9 @@ fn past(s: &[u8], at: usize) -> usize
     ensures value { result ≡ past_of s.now at }
     ensures upper_bound { result ≤ at + 17 }
 {
-    if at < s.len() {
-        at + 1 + 2 * (u8::count_ones(s[at]) as usize)
-    } else {
-        at + 1
+    match s.get(at) {
+        Some(bitmap) => at + 1 + 2 * bitmap.count_ones() as usize,
+        None => at + 1,
     }
 }
 
@@ -51,10 +49,8 @@ pub fn used(s: &[u8]) -> usize
         return 1;
     }
     let mut at = past(s, 1);
-    let mut left = n - 1;
-    while 0 < left {
+    for _ in 1..n {
         at = past(s, at);
-        left -= 1;
     }
     at
 }
@@ -69,36 +65,17 @@ fn first(x: u64, k: usize) -> u64
     if 8 <= k {
         return x;
     }
-    let low = 64 - 8 * k as u64;
+    let low = 64 - 8 * k;
     x >> low << low
 }
 
-// n less k, 0 where k is the larger.
-fn less(n: usize, k: usize) -> usize
-    ensures { result ≡ n - k }
-{
-    if n < k { 0 } else { n - k }
-}
-
-// The eight octets of x, written over `out` from `at`.
-fn lay(out: [u8; 40], at: usize, x: u64) -> [u8; 40]
+// The eight octets of x, written over `out` from `at`. By value: through a reference the test of sets takes longer.
+fn lay(mut out: [u8; 40], at: usize, x: u64) -> [u8; 40]
     requires { at + 8 ≤ 40 }
     ensures { result ≡ over at out (bytes 8 x) }
 {
-    let mut o = out;
-    let e = at + 8;
-    octets::put(&mut o[at..e], x);
-    o
-}
-
-// The number in the eight octets from `at`, or in as many as there are.
-fn word(s: &[u8], at: usize) -> u64
-    ensures { result ≡ field_of s.now at 8 }
-{
-    if s.len() <= at {
-        return 0;
-    }
-    octets::number(&s[at..])
+    octets::put(&mut out[at..at + 8], x);
+    out
 }
 
 // A body of so many sets, with these octets and zeros behind them.
@@ -108,19 +85,8 @@ fn begun(number: u8, octets: &[u8]) -> [u8; 40]
 {
     let mut o = [0u8; 40];
     o[0] = number;
-    let end = 1 + octets.len();
-    o[1..end].copy_from_slice(octets);
+    o[1..=octets.len()].copy_from_slice(octets);
     o
-}
-
-fn same(s: Sets, t: Sets) -> bool
-    ensures { result ≡ same_sets s t }
-{
-    (s.first == t.first)
-        & (s.second == t.second)
-        & (s.third == t.third)
-        & (s.fourth == t.fourth)
-        & (s.fifth == t.fifth)
 }
 
 impl Sets {
@@ -134,11 +100,8 @@ impl Sets {
 
     // What doesn't fit: 255 sets.
     const UNFIT: Sets = Sets {
-        first: 0xFFFFFFFFFFFFFFFF,
-        second: 0,
-        third: 0,
-        fourth: 0,
-        fifth: 0,
+        first: u64::MAX,
+        ..Sets::NONE
     };
 
     // What a client asks for: so many sets, whose octets these are, just so many and at most 39. Else sets that don't fit.
@@ -159,28 +122,23 @@ impl Sets {
     pub fn octets(self) -> [u8; 40]
         ensures { result ≡ forty_of self }
     {
-        let a = lay([0u8; 40], 0, self.first);
-        let b = lay(a, 8, self.second);
-        let c = lay(b, 16, self.third);
-        let d = lay(c, 24, self.fourth);
-        lay(d, 32, self.fifth)
+        let o = lay([0; 40], 0, self.first);
+        let o = lay(o, 8, self.second);
+        let o = lay(o, 16, self.third);
+        let o = lay(o, 24, self.fourth);
+        lay(o, 32, self.fifth)
     }
 
     // And back.
     pub fn of(s: &[u8]) -> Sets
         ensures { result ≡ sets_of s.now }
     {
-        let first = word(s, 0);
-        let second = word(s, 8);
-        let third = word(s, 16);
-        let fourth = word(s, 24);
-        let fifth = word(s, 32);
         Sets {
-            first,
-            second,
-            third,
-            fourth,
-            fifth,
+            first: octets::field(s, 0, 8),
+            second: octets::field(s, 8, 8),
+            third: octets::field(s, 16, 8),
+            fourth: octets::field(s, 24, 8),
+            fifth: octets::field(s, 32, 8),
         }
     }
 
@@ -190,10 +148,10 @@ impl Sets {
     {
         Sets {
             first: first(self.first, n),
-            second: first(self.second, less(n, 8)),
-            third: first(self.third, less(n, 16)),
-            fourth: first(self.fourth, less(n, 24)),
-            fifth: first(self.fifth, less(n, 32)),
+            second: first(self.second, n.saturating_sub(8)),
+            third: first(self.third, n.saturating_sub(16)),
+            fourth: first(self.fourth, n.saturating_sub(24)),
+            fifth: first(self.fifth, n.saturating_sub(32)),
         }
     }
 
@@ -202,16 +160,16 @@ impl Sets {
         ensures { result ≡ ends_at n self }
     {
         if n < 32 {
-            return same(self.cut(n), self);
+            let cut = self.cut(n);
+            return cut == self;
         }
-        (n <= BODY) & (first(self.fifth, n - 32) == self.fifth)
+        n <= BODY && first(self.fifth, n - 32) == self.fifth
     }
 
     // Whether the sets don't run past the forty octets, and zeros stand behind them.
     pub fn fits(self) -> bool
         ensures { result ≡ fits_sets self }
     {
-        let o = self.octets();
-        self.ends(used(&o))
+        self.ends(used(&self.octets()))
     }
 }

@@ -10,23 +10,20 @@ use frame::{Address, Body, Grant, Grants, Message};
 pub fn address(a: Address) -> bool
     ensures { result ≡ fits_address a }
 {
-    let largest = Address::LARGEST;
-    a.0 <= largest.0
+    a.0 <= Address::LARGEST.0
 }
 
-// An own address, a link's, or a source: not zero, and no group's, whose first octet is odd. The bits above the address are looked at like that octet's.
+// An own address, a link's, or a source: not zero, and no group's, whose first octet is odd.
 pub fn individual(a: Address) -> bool
     ensures { result ≡ is_individual a }
 {
-    let n = a.0;
-    (n >> 48 == 0) & ((n >> 40) % 2 == 0) & (0 < n)
+    address(a) && 0 < a.0 && (a.0 >> 40) % 2 == 0
 }
 
 fn grant(g: Grant) -> bool
     ensures { result ≡ fits_grant g }
 {
-    let length = g.length;
-    length.fits()
+    g.length.fits()
 }
 
 pub fn grants(g: Grants) -> bool
@@ -35,9 +32,9 @@ pub fn grants(g: Grants) -> bool
     match g {
         Grants::None => true,
         Grants::One(a) => grant(a),
-        Grants::Two(a, b) => grant(a) & grant(b),
-        Grants::Three(a, b, c) => grant(a) & grant(b) & grant(c),
-        Grants::Four(a, b, c, d) => grant(a) & grant(b) & grant(c) & grant(d),
+        Grants::Two(a, b) => grant(a) && grant(b),
+        Grants::Three(a, b, c) => grant(a) && grant(b) && grant(c),
+        Grants::Four(a, b, c, d) => grant(a) && grant(b) && grant(c) && grant(d),
     }
 }
 
@@ -46,31 +43,15 @@ fn body(b: Body) -> bool
 {
     match b {
         Body::Gate(g) => grants(g),
-        Body::Discovery { grant: g, sync } => grant(g) & sync.fits(),
+        Body::Discovery { grant: g, sync } => grant(g) && sync.fits(),
         Body::Report(s) => s.fits(),
-        Body::RegisterReq {
-            flag: _,
-            pending: _,
-        } => true,
-        Body::Register {
-            port: _,
-            flag: _,
-            sync,
-            pending: _,
-        } => sync.fits(),
-        Body::RegisterAck {
-            flag: _,
-            port: _,
-            sync,
-        } => sync.fits(),
+        Body::RegisterReq { .. } => true,
+        Body::Register { sync, .. } | Body::RegisterAck { sync, .. } => sync.fits(),
     }
 }
 
 pub fn message(m: Message) -> bool
     ensures { result ≡ fits_message m }
 {
-    let destination = m.destination;
-    let source = m.source;
-    let said = m.body;
-    address(destination) & individual(source) & body(said)
+    address(m.destination) && individual(m.source) && body(m.body)
 }

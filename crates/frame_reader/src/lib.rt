@@ -1,11 +1,13 @@
 // The reader of control frames: it answers every slice.
 #![tactic(auto)]
 
-ghost use Rattle.std.specs.Prelude.{◌≡◌, ◌+◌, ◌≤◌, ◌<◌, ◌^◌, [], ◌∷◌, length, take};
-ghost use Rattle.frame.specs.Reading.{gate_in_range, body_in_range, source_in_range, refusal};
+ghost use Rattle.std.specs.Prelude.{◌≡◌, ◌+◌, ◌≤◌, [], ◌∷◌, leb, take, drop};
+ghost use Rattle.frame.specs.Reading.{one_of, gate_in_range, refusal};
+ghost use Rattle.frame_queues.specs.Queues.{used_of};
 ghost use Rattle.octets.specs.Octets.{field_of};
-ghost use Rattle.frame_reader.specs.Decode.{quanta_at, grant_at, gate_of, gate_at, report_at, register_req_at, register_at, register_ack_at, body_at, message_at, read_control, read_of};
-ghost use Rattle.frame_reader.specs.Flags.{few, register_req_flag_of, register_flag_of, register_ack_flag_of};
+ghost use Rattle.frame_reader.specs.Decode.{quanta_at, grant_at, gate_at, report_at, register_req_at, register_at, register_ack_at, read_of};
+ghost use Rattle.frame_reader.specs.Flags.{few};
+ghost use Rattle.frame_reader.specs.Results.{ranged, body_read, control_read, reading_of};
 
 use clock::{Count, Quanta};
 use frame::{
@@ -14,229 +16,143 @@ use frame::{
 };
 use frame_queues::Sets;
 
-// The number in the n octets from `at`.
-fn field(s: &[u8], at: usize, n: usize) -> u64
-    requires { (n ≤ 8) × (at + n ≤ length s.now) }
-    ensures value { result ≡ field_of s.now at n }
-    ensures upper_bound { result < 256 ^ n }
-{
-    let e = at + n;
-    octets::number(&s[at..e])
-}
-
-fn quanta_at(s: &[u8], at: usize) -> Quanta
-    requires { at + 2 ≤ length s.now }
+fn quanta_at(s: &[u8; Message::OCTETS], at: usize) -> Quanta
     ensures { result ≡ quanta_at s.now at }
 {
-    Quanta(field(s, at, 2) as u32)
+    Quanta(octets::field(s, at, 2) as u32)
 }
 
-fn grant_at(s: &[u8], at: usize, force: bool) -> Grant
-    requires { at + 6 ≤ length s.now }
+fn grant_at(s: &[u8; Message::OCTETS], at: usize, force: bool) -> Grant
+    requires { at + 6 ≤ 60 }
     ensures { result ≡ grant_at s.now at force }
 {
-    let start = Count(field(s, at, 4) as u32);
-    let length = quanta_at(s, at + 4);
     Grant {
-        start,
-        length,
+        start: Count(octets::field(s, at, 4) as u32),
+        length: quanta_at(s, at + 4),
         force,
     }
 }
 
-// Whether a GATE's first octet is in range.
-fn gate_in_range(f: u64) -> bool
-    ensures { result ≡ gate_in_range f }
-{
-    let n = f % 8;
-    let clear = f >> (n + 4) == 0;
-    if f / 8 % 2 == 1 {
-        return (n == 1) & clear;
-    }
-    (n <= 4) & clear
-}
-
 // The first n of the four.
-fn grants_of(n: u64, a: Grant, b: Grant, c: Grant, d: Grant) -> Grants
-    ensures { result ≡ few (take n (a ∷ b ∷ c ∷ d ∷ [])) }
+fn grants_of(n: u64, a: Grant, b: Grant, c: Grant, d: Grant) -> Result<Grants, Reply>
+    ensures { result ≡ ranged (leb n 4) (few (take n (a ∷ b ∷ c ∷ d ∷ []))) }
 {
-    if n == 0 {
-        return Grants::None;
+    match n {
+        0 => Ok(Grants::None),
+        1 => Ok(Grants::One(a)),
+        2 => Ok(Grants::Two(a, b)),
+        3 => Ok(Grants::Three(a, b, c)),
+        4 => Ok(Grants::Four(a, b, c, d)),
+        _ => Err(Reply::Range),
     }
-    if n == 1 {
-        return Grants::One(a);
-    }
-    if n == 2 {
-        return Grants::Two(a, b);
-    }
-    if n == 3 {
-        return Grants::Three(a, b, c);
-    }
-    Grants::Four(a, b, c, d)
 }
 
-// A GATE, of what stands where its grants may and where its sync time may.
-fn gate_of(f: u64, a: Grant, b: Grant, c: Grant, d: Grant, sync: Quanta) -> Body
-    ensures { result ≡ gate_of f a b c d sync }
+// A GATE, normal or for newcomers. A force bit of a grant that it hasn't is out of range.
+fn gate_at(s: &[u8; Message::OCTETS]) -> Result<Body, Reply>
+    ensures { result ≡ ranged (gate_in_range (field_of s.now 20 1)) (gate_at s.now) }
 {
-    if f / 8 % 2 == 1 {
-        return Body::Discovery { grant: a, sync };
+    let f = octets::field(s, 20, 1);
+    let n = f % 8;
+    if f >> (n + 4) != 0 {
+        return Err(Reply::Range);
     }
-    Body::Gate(grants_of(f % 8, a, b, c, d))
-}
-
-fn gate_at(s: &[u8]) -> Body
-    requires { length s.now ≡ 60 }
-    ensures { result ≡ gate_at s.now }
-{
-    let f = field(s, 20, 1);
     let a = grant_at(s, 21, f / 16 % 2 == 1);
+    if f / 8 % 2 == 1 {
+        if n != 1 {
+            return Err(Reply::Range);
+        }
+        return Ok(Body::Discovery {
+            grant: a,
+            sync: quanta_at(s, 27),
+        });
+    }
     let b = grant_at(s, 27, f / 32 % 2 == 1);
     let c = grant_at(s, 33, f / 64 % 2 == 1);
     let d = grant_at(s, 39, f / 128 % 2 == 1);
-    gate_of(f, a, b, c, d, quanta_at(s, 27))
+    Ok(Body::Gate(grants_of(n, a, b, c, d)?))
 }
 
-fn report_at(s: &[u8]) -> Body
-    requires { length s.now ≡ 60 }
-    ensures { result ≡ report_at s.now }
+fn report_at(s: &[u8; Message::OCTETS]) -> Result<Body, Reply>
+    ensures { result ≡ ranged (leb (used_of (drop 20 s.now)) 40) (report_at s.now) }
 {
     let body = &s[20..];
-    let sets = Sets::of(body);
-    Body::Report(sets.cut(frame_queues::used(body)))
+    let used = frame_queues::used(body);
+    if used > body.len() {
+        return Err(Reply::Range);
+    }
+    Ok(Body::Report(Sets::of(body).cut(used)))
 }
 
-fn register_req_flag(f: u64) -> RegisterReqFlag
-    ensures { result ≡ register_req_flag_of f }
+fn register_req_at(s: &[u8; Message::OCTETS]) -> Result<Body, Reply>
+    ensures { result ≡ ranged (one_of (field_of s.now 20 1) (1 ∷ 3 ∷ [])) (register_req_at s.now) }
 {
-    if f == 1 {
-        return RegisterReqFlag::Register;
-    }
-    RegisterReqFlag::Deregister
+    Ok(Body::RegisterReq {
+        flag: RegisterReqFlag::try_from(octets::field(s, 20, 1))?,
+        pending: octets::field(s, 21, 1) as u8,
+    })
 }
 
-fn register_flag(f: u64) -> RegisterFlag
-    ensures { result ≡ register_flag_of f }
+fn register_at(s: &[u8; Message::OCTETS]) -> Result<Body, Reply>
+    ensures { result ≡ ranged (one_of (field_of s.now 22 1) (1 ∷ 2 ∷ 3 ∷ 4 ∷ [])) (register_at s.now) }
 {
-    if f == 1 {
-        return RegisterFlag::Reregister;
-    }
-    if f == 2 {
-        return RegisterFlag::Deregister;
-    }
-    if f == 3 {
-        return RegisterFlag::Ack;
-    }
-    RegisterFlag::Nack
+    Ok(Body::Register {
+        port: octets::field(s, 20, 2) as u16,
+        flag: RegisterFlag::try_from(octets::field(s, 22, 1))?,
+        sync: quanta_at(s, 23),
+        pending: octets::field(s, 25, 1) as u8,
+    })
 }
 
-fn register_ack_flag(f: u64) -> RegisterAckFlag
-    ensures { result ≡ register_ack_flag_of f }
+fn register_ack_at(s: &[u8; Message::OCTETS]) -> Result<Body, Reply>
+    ensures { result ≡ ranged (one_of (field_of s.now 20 1) (0 ∷ 1 ∷ [])) (register_ack_at s.now) }
 {
-    if f == 0 {
-        return RegisterAckFlag::Nack;
-    }
-    RegisterAckFlag::Ack
+    Ok(Body::RegisterAck {
+        flag: RegisterAckFlag::try_from(octets::field(s, 20, 1))?,
+        port: octets::field(s, 21, 2) as u16,
+        sync: quanta_at(s, 23),
+    })
 }
 
-fn register_req_at(s: &[u8]) -> Body
-    requires { length s.now ≡ 60 }
-    ensures { result ≡ register_req_at s.now }
+// What the frame says, by its opcode.
+fn body_at(s: &[u8; Message::OCTETS]) -> Result<Body, Reply>
+    ensures { result ≡ body_read (field_of s.now 14 2) s.now }
 {
-    let flag = register_req_flag(field(s, 20, 1));
-    let pending = field(s, 21, 1) as u8;
-    Body::RegisterReq { flag, pending }
-}
-
-fn register_at(s: &[u8]) -> Body
-    requires { length s.now ≡ 60 }
-    ensures { result ≡ register_at s.now }
-{
-    let port = field(s, 20, 2) as u16;
-    let flag = register_flag(field(s, 22, 1));
-    let sync = quanta_at(s, 23);
-    let pending = field(s, 25, 1) as u8;
-    Body::Register {
-        port,
-        flag,
-        sync,
-        pending,
+    match octets::field(s, 14, 2) {
+        Body::GATE => gate_at(s),
+        Body::REPORT => report_at(s),
+        Body::REGISTER_REQ => register_req_at(s),
+        Body::REGISTER => register_at(s),
+        Body::REGISTER_ACK => register_ack_at(s),
+        _ => Err(Reply::Opcode),
     }
 }
 
-fn register_ack_at(s: &[u8]) -> Body
-    requires { length s.now ≡ 60 }
-    ensures { result ≡ register_ack_at s.now }
+// A source is individual and not zero; a destination may be any.
+fn message_at(s: &[u8; Message::OCTETS]) -> Result<Message, Reply>
+    ensures { reading_of result ≡ control_read s.now }
 {
-    let flag = register_ack_flag(field(s, 20, 1));
-    let port = field(s, 21, 2) as u16;
-    let sync = quanta_at(s, 23);
-    Body::RegisterAck { flag, port, sync }
-}
-
-// Whether the fields of a body with a known opcode are in range.
-fn body_in_range(s: &[u8], opcode: u64) -> bool
-    requires { length s.now ≡ 60 }
-    ensures { result ≡ body_in_range opcode s.now }
-{
-    let first = field(s, 20, 1);
-    if opcode == Body::GATE {
-        return gate_in_range(first);
+    if octets::field(s, 12, 2) != Message::KIND {
+        return Err(Reply::Kind);
     }
-    if opcode == Body::REPORT {
-        return frame_queues::used(&s[20..]) <= 40;
+    let body = body_at(s)?;
+    let source = Address(octets::field(s, 6, 6));
+    if !frame_range::individual(source) {
+        return Err(Reply::Range);
     }
-    if opcode == Body::REGISTER_REQ {
-        return (first == 1) | (first == 3);
-    }
-    if opcode == Body::REGISTER {
-        let flag = field(s, 22, 1);
-        return (flag == 1) | (flag == 2) | (flag == 3) | (flag == 4);
-    }
-    (first == 0) | (first == 1)
-}
-
-// Whether the source is individual and not zero.
-fn source_in_range(s: &[u8]) -> bool
-    requires { length s.now ≡ 60 }
-    ensures { result ≡ source_in_range s.now }
-{
-    frame_range::individual(Address(field(s, 6, 6)))
-}
-
-// A body with a known opcode, of fields that are in range.
-fn body_at(s: &[u8], opcode: u64) -> Body
-    requires { length s.now ≡ 60 }
-    ensures { result ≡ body_at opcode s.now }
-{
-    if opcode == Body::GATE {
-        return gate_at(s);
-    }
-    if opcode == Body::REPORT {
-        return report_at(s);
-    }
-    if opcode == Body::REGISTER_REQ {
-        return register_req_at(s);
-    }
-    if opcode == Body::REGISTER {
-        return register_at(s);
-    }
-    register_ack_at(s)
-}
-
-fn message_at(s: &[u8]) -> Message
-    requires { length s.now ≡ 60 }
-    ensures { result ≡ message_at s.now }
-{
-    let destination = Address(field(s, 0, 6));
-    let source = Address(field(s, 6, 6));
-    let timestamp = Count(field(s, 16, 4) as u32);
-    let body = body_at(s, field(s, 14, 2));
-    Message {
-        destination,
+    Ok(Message {
+        destination: Address(octets::field(s, 0, 6)),
         source,
-        timestamp,
+        timestamp: Count(octets::field(s, 16, 4) as u32),
         body,
+    })
+}
+
+fn message(octets: &[u8]) -> Result<Message, Reply>
+    ensures { reading_of result ≡ read_of octets.now }
+{
+    match octets.as_array() {
+        Some(s) => message_at(s),
+        None => Err(Reply::Size),
     }
 }
 
@@ -252,34 +168,15 @@ fn refused(reply: Reply) -> Reading
     Reading { reply, message }
 }
 
-// The answer to sixty octets of the right type.
-fn read_control(s: &[u8]) -> Reading
-    requires { length s.now ≡ 60 }
-    ensures { result ≡ read_control s.now }
-{
-    let opcode = field(s, 14, 2);
-    if (Body::GATE <= opcode) & (opcode <= Body::REGISTER_ACK) {
-        if source_in_range(s) & body_in_range(s, opcode) {
-            let message = message_at(s);
-            return Reading {
-                reply: Reply::Done,
-                message,
-            };
-        }
-        return refused(Reply::Range);
-    }
-    refused(Reply::Opcode)
-}
-
 // The message that the octets carry; else 1, 2, 3 or 4, the first in this order that applies.
 pub fn read(octets: &[u8]) -> Reading
     ensures { result ≡ read_of octets.now }
 {
-    if octets.len() != Message::OCTETS {
-        return refused(Reply::Size);
+    match message(octets) {
+        Ok(message) => Reading {
+            reply: Reply::Done,
+            message,
+        },
+        Err(reply) => refused(reply),
     }
-    if field(octets, 12, 2) != Message::KIND {
-        return refused(Reply::Kind);
-    }
-    read_control(octets)
 }

@@ -1,12 +1,12 @@
 -- Lemmas: a frame that leaves with another timestamp than it was handed out with carries the same message but for that.
 -- Assumes nothing.
-use Rattle.std.specs.Prelude.{ℕ, zero, suc, ◌+◌, ◌≤◌, ◌<◌, ◌≡◌, refl, Bool, true, false, cond, ◌&&◌, List, [], ◌∷◌, ◌++◌, ltb, length, take, drop}
+use Rattle.std.specs.Prelude.{ℕ, ◌+◌, ◌-◌, ◌≤◌, ◌<◌, ◌≡◌, refl, Bool, true, false, cond, ◌&&◌, List, [], ◌++◌, length, take, drop}
 use Rattle.std.proofs.Common.{sym, ap, ◌∙◌, ⊎_elim, arith, ne_eqb, length-append, length-take, length-drop, length-take-le, take_at, drop_at, take-take, drop-drop}
-use Rattle.std.proofs.Math.Bool.{and-eq-true_iff}
+use Rattle.std.proofs.Math.Bool.{and-false}
 use Rattle.std.proofs.Math.Option.{none, some}
 use Rattle.std.proofs.Math.Dec.{eqb, leb}
-use Rattle.std.proofs.lemmas.List.{take-append-le}
-use Rattle.octets.specs.Laws.{length-onto}
+use Rattle.std.proofs.lemmas.List.{drop-take, take-append-le}
+use Rattle.octets.specs.Laws.{length-onto, octets-take, octets-drop}
 use Rattle.octets.specs.Octets.{bytes, value, field_of}
 use Rattle.frame.specs.Card.{number_of}
 use Rattle.frame.specs.Reading.{body_in_range, source_in_range, refusal}
@@ -15,29 +15,17 @@ use Rattle.frame.specs.declared.Reading.{Reading}
 use Rattle.frame.specs.declared.Reply.TheVariants.{Done, Size, Kind, Opcode, Range}
 use Rattle.laws.specs.Cases.{either, cut}
 use Rattle.frame_reader.specs.Decode.{grant_at, gate_at, report_at, register_req_at, register_at, register_ack_at, body_at, message_at, read_control, read_of}
-use Rattle.pair_wire.specs.Carried.{octets-join, octets-bytes}
+use Rattle.pair_wire.specs.Carried.{octets-join, octets-bytes, are-octets, octets-of}
 use Rattle.pair_wire.specs.Message.{are_octets, message_in, stamped, restamped}
 use Rattle.pair_wire.specs.Restarts.{tested}
-
--- octets
-octets-take : (n : ℕ) (l : List ℕ) → are_octets l ≡ true → are_octets (take n l) ≡ true
-octets-take zero l h = refl
-octets-take (suc n) [] h = refl
-octets-take (suc n) (x ∷ l) h =
-    let p = (and-eq-true_iff (ltb x 256) (are_octets l)).0 h in
-    rw p.0 (octets-take n l p.1)
-
-octets-drop : (n : ℕ) (l : List ℕ) → are_octets l ≡ true → are_octets (drop n l) ≡ true
-octets-drop zero l h = h
-octets-drop (suc n) [] h = refl
-octets-drop (suc n) (x ∷ l) h = octets-drop n l ((and-eq-true_iff (ltb x 256) (are_octets l)).0 h).1
 
 pub stamped-octets : (n : ℕ) (os : List ℕ) → are_octets os ≡ true → are_octets (stamped n os) ≡ true
 unfolding stamped
 stamped-octets n os h =
+    let o = octets-of os h in
     octets-join (take 16 os ++ bytes 4 n) (drop 20 os)
-    (octets-join (take 16 os) (bytes 4 n) (octets-take 16 os h) (octets-bytes 4 n))
-    (octets-drop 20 os h)
+    (octets-join (take 16 os) (bytes 4 n) (are-octets (take 16 os) (octets-take 16 os o)) (octets-bytes 4 n))
+    (are-octets (drop 20 os) (octets-drop 20 os o))
 
 -- what differs at most in the timestamp
 pub record Alike (x y : Message) : Type 0 where
@@ -58,10 +46,9 @@ both false a b x y h k = k
 
 -- a part of a beginning
 part_in : (a n c : ℕ) (l : List ℕ) → a + n ≤ c → take n (drop a (take c l)) ≡ take n (drop a l)
-part_in zero n c l h = take-take n c l (omega arith)
-part_in (suc a) n zero l h = absurd (omega arith)
-part_in (suc a) n (suc c) [] h = refl
-part_in (suc a) n (suc c) (x ∷ l) h = part_in a n c l (omega arith)
+part_in a n c l h =
+    let e : c ≡ a + (c - a) = omega arith in
+    ap (λ (k : ℕ). take n (drop a (take k l))) e ∙ ap (take n) (drop-take a (c - a) l) ∙ take-take n (c - a) (drop a l) (omega arith)
 
 module _ (l m : List ℕ) (size : length l ≡ length m) (early : take 16 l ≡ take 16 m) (late : drop 20 l ≡ drop 20 m) where
   front : (a n : ℕ) → a + n ≤ 16 → field_of l a n ≡ field_of m a n
@@ -137,10 +124,6 @@ carried-alike t b l m h k r =
     rw (h, k, r.reply) (tested-by t (eqb (number_of (read_of m).reply) 0) (read_of l).message (read_of m).message (b _ _ r.message))
 
 -- what is too short to have a timestamp is no frame, then or now
-and-false : (t : Bool) → (t && false) ≡ false
-and-false true = refl
-and-false false = refl
-
 none_in : (l : List ℕ) → eqb (length l) 60 ≡ false → message_in l ≡ none
 unfolding message_in read_of
 none_in l e = rw (e, and-false (are_octets l))

@@ -1,15 +1,15 @@
 -- Lemmas: what carries a message.
 -- Assumes nothing.
-use Rattle.std.specs.Prelude.{ℕ, zero, suc, ◌/◌, ◌%◌, ◌-◌, ◌≡◌, refl, Bool, true, false, cond, ◌&&◌, List, [], ◌∷◌, ◌++◌, eqb, ltb, length, take, replicate}
+use Rattle.std.specs.Prelude.{ℕ, zero, suc, ◌%◌, ◌-◌, ◌≡◌, refl, Bool, true, false, cond, ◌&&◌, List, [], ◌∷◌, ◌++◌, eqb, ltb, length, take, replicate}
 use Rattle.std.proofs.Math.Bool.{and-eq-true_iff}
 use Rattle.std.proofs.Math.Option.{none, some}
 use Rattle.std.proofs.Common.{arith, eqb-true, ltb-true, lt-ltb}
 use Rattle.octets.specs.Octets.{onto, bytes, value_from, Octets}
-use Rattle.octets.specs.Laws.{octets-take}
+use Rattle.octets.specs.Laws.{octets-take, octets-zeros, octets-bytes as onto-octets}
 use Rattle.frame_queues.specs.Queues.{used_of, forty_of}
 use Rattle.frame_queues.specs.Laws.{forty-octets}
 use Rattle.frame.specs.Card.{number_of}
-use Rattle.frame.specs.Layout.{header_of, listed, first_octet, per_grant, register_req_flag, register_flag, register_ack_flag, opcode_of, body_octets, encode}
+use Rattle.frame.specs.Layout.{listed, per_grant, body_octets, encode}
 use Rattle.frame.specs.Range.{Valid}
 use Rattle.frame.specs.declared.Body.{Body}
 use Rattle.frame.specs.declared.Body.TheVariants.{Gate, Discovery, Report, RegisterReq, Register, RegisterAck}
@@ -28,74 +28,38 @@ octets-join (x ∷ xs) r h k =
     let p = (and-eq-true_iff (ltb x 256) (are_octets xs)).0 h in
     (and-eq-true_iff (ltb x 256) (are_octets (xs ++ r))).1 (p.0, octets-join xs r p.1 k)
 
-octets-onto : (n x : ℕ) (t : List ℕ) → are_octets t ≡ true → are_octets (onto n x t) ≡ true
-unfolding onto
-octets-onto zero x t h = h
-octets-onto (suc n) x t h =
-    octets-onto n (x / 256) (x % 256 ∷ t) ((and-eq-true_iff (ltb (x % 256) 256) (are_octets t)).1 (lt-ltb (x % 256) 256 (omega arith), h))
-
-pub octets-bytes : (n x : ℕ) → are_octets (bytes n x) ≡ true
-octets-bytes n x = octets-onto n x [] refl
-
-octets-zeros : (n : ℕ) → are_octets (replicate n 0) ≡ true
-octets-zeros zero = refl
-octets-zeros (suc n) = octets-zeros n
-
 -- a list of octets passes the test
 pub are-octets : (l : List ℕ) → Octets l → are_octets l ≡ true
 are-octets [] h = refl
 are-octets (x ∷ l) h = (and-eq-true_iff (ltb x 256) (are_octets l)).1 (lt-ltb x 256 (h 0), are-octets l (λ i. h (suc i)))
 
-octets-grants : (gs : List Grant) → are_octets (per_grant gs) ≡ true
-octets-grants [] = refl
-octets-grants (g ∷ gs) =
-    octets-join (bytes 4 g.start.0 ++ bytes 2 g.length.0) (per_grant gs)
-    (octets-join (bytes 4 g.start.0) (bytes 2 g.length.0) (octets-bytes 4 g.start.0) (octets-bytes 2 g.length.0))
-    (octets-grants gs)
+pub octets-bytes : (n x : ℕ) → are_octets (bytes n x) ≡ true
+octets-bytes n x = are-octets (bytes n x) (onto-octets n x [] (λ _. omega arith))
 
-octets-gate : (discovery : Bool) (gs : List Grant) → are_octets (bytes 1 (first_octet discovery gs) ++ per_grant gs) ≡ true
-octets-gate discovery gs =
-    octets-join (bytes 1 (first_octet discovery gs)) (per_grant gs) (octets-bytes 1 (first_octet discovery gs)) (octets-grants gs)
+below : (x : ℕ) → ltb (x % 256) 256 ≡ true
+below x = lt-ltb (x % 256) 256 (omega arith)
+
+octets-grants : (gs : List Grant) → are_octets (per_grant gs) ≡ true
+unfolding onto
+octets-grants [] = refl
+octets-grants (g ∷ gs) = simp below (octets-grants gs)
 
 octets-body : (b : Body) → are_octets (body_octets b) ≡ true
-unfolding body_octets
-octets-body (Gate grants) = octets-gate false (listed grants)
-octets-body (Discovery grant sync) =
-    octets-join (bytes 1 (first_octet true (grant ∷ [])) ++ per_grant (grant ∷ [])) (bytes 2 sync.0)
-    (octets-gate true (grant ∷ [])) (octets-bytes 2 sync.0)
+unfolding body_octets onto
+octets-body (Gate grants) = simp below (octets-grants (listed grants))
+octets-body (Discovery grant sync) = simp below
 octets-body (Report s) = are-octets (take (used_of (forty_of s)) (forty_of s)) (octets-take (used_of (forty_of s)) (forty_of s) (forty-octets s))
-octets-body (RegisterReq flag pending) =
-    octets-join (bytes 1 (register_req_flag flag)) (bytes 1 pending) (octets-bytes 1 (register_req_flag flag)) (octets-bytes 1 pending)
-octets-body (Register port flag sync pending) =
-    octets-join (bytes 2 port ++ bytes 1 (register_flag flag) ++ bytes 2 sync.0) (bytes 1 pending)
-    (octets-join (bytes 2 port ++ bytes 1 (register_flag flag)) (bytes 2 sync.0)
-    (octets-join (bytes 2 port) (bytes 1 (register_flag flag)) (octets-bytes 2 port) (octets-bytes 1 (register_flag flag)))
-    (octets-bytes 2 sync.0))
-    (octets-bytes 1 pending)
-octets-body (RegisterAck flag port sync) =
-    octets-join (bytes 1 (register_ack_flag flag) ++ bytes 2 port) (bytes 2 sync.0)
-    (octets-join (bytes 1 (register_ack_flag flag)) (bytes 2 port) (octets-bytes 1 (register_ack_flag flag)) (octets-bytes 2 port))
-    (octets-bytes 2 sync.0)
-
-octets-header : (destination source opcode timestamp : ℕ) → are_octets (header_of destination source opcode timestamp) ≡ true
-octets-header destination source opcode timestamp =
-    octets-join (bytes 6 destination ++ bytes 6 source ++ bytes 2 0x8808 ++ bytes 2 opcode) (bytes 4 timestamp)
-    (octets-join (bytes 6 destination ++ bytes 6 source ++ bytes 2 0x8808) (bytes 2 opcode)
-    (octets-join (bytes 6 destination ++ bytes 6 source) (bytes 2 0x8808)
-    (octets-join (bytes 6 destination) (bytes 6 source) (octets-bytes 6 destination) (octets-bytes 6 source))
-    (octets-bytes 2 0x8808))
-    (octets-bytes 2 opcode))
-    (octets-bytes 4 timestamp)
+octets-body (RegisterReq flag pending) = simp below
+octets-body (Register port flag sync pending) = simp below
+octets-body (RegisterAck flag port sync) = simp below
 
 -- every frame that is written is octets
 pub encode-octets : (m : Message) → are_octets (encode m) ≡ true
-unfolding encode
+unfolding encode onto
 encode-octets m =
     let b = body_octets m.body in
-    let h = header_of m.destination.0 m.source.0 (opcode_of m.body) m.timestamp.0 in
-    octets-join h (b ++ replicate (40 - length b) 0)
-    (octets-header m.destination.0 m.source.0 (opcode_of m.body) m.timestamp.0)
-    (octets-join b (replicate (40 - length b) 0) (octets-body m.body) (octets-zeros (40 - length b)))
+    let pad = replicate (40 - length b) 0 in
+    simp below (octets-join b pad (octets-body m.body) (are-octets pad (octets-zeros (40 - length b))))
 
 pub octets-of : (l : List ℕ) → are_octets l ≡ true → Octets l
 octets-of [] h i = omega arith

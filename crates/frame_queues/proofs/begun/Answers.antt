@@ -1,15 +1,13 @@
 -- `frame_queues::begun` meets its promise.
 -- Assumes nothing.
-use Prim.Native.Nat.{suc, ◌+◌, ◌-◌}
-use mathlib.Core.Path.{◌≡◌}
-use native.Mathlib.Omega.{arith}
-use lib.ListN.{length}
-use Rattle.frame_queues.specs.Laws.{drop-zeros}
+use Rattle.std.proofs.Common.{ℕ, suc, ◌≡◌, ◌+◌, ◌-◌, length, drop, replicate, arith}
+use Rattle.std.proofs.lemmas.List.{drop-replicate}
 use Rattle.frame_queues.proofs.begun.Goals as goal
 
 pub returns : goal.returns
 returns c =
-    let l = c.args.octets.now in
-    let rest : 40 - suc (length l) ≡ 39 - length l = omega arith in
-    let same : 1 + length l - 1 ≡ length l = omega arith in
-    rw (c.copy_from_slice.ensures.after, same, rest, ← drop-zeros (length l) 39)
+    let n = length c.args.octets.now in
+    let many : n + 1 - 1 ≡ n = omega arith in
+    let zeros : drop {A = ℕ} n (replicate 39 0) ≡ replicate (39 - n) 0 = drop-replicate n 39 0 in
+    let left : 39 - n ≡ 40 - suc n = omega arith in
+    rw (c.copy_from_slice.ensures.after, many, zeros, left)

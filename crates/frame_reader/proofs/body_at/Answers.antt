@@ -1,45 +1,30 @@
 -- `frame_reader::body_at` meets its promise.
 -- Assumes nothing.
-use borrow.Author.Tests.{eq-eqb, ne_eqb}
+use Rattle.std.proofs.Common.{rules}
+use Rattle.frame.specs.Reading.{body_in_range}
 use Rattle.frame_reader.specs.Decode.{body_at}
 use Rattle.frame_reader.proofs.body_at.Goals as goal
 
-pub returns-then-opcode-eq-GATE : goal.returns-then-opcode-eq-GATE
-unfolding body_at
-returns-then-opcode-eq-GATE c = rw (c.gate_at.ensures, eq-eqb _ _ c.if-opcode-eq-GATE.true)
+pub returns-in-2 : goal.returns-in-2
+unfolding body_in_range body_at
+returns-in-2 c = search rules
 
-pub returns-then-opcode-eq-REPORT : goal.returns-then-opcode-eq-REPORT
-unfolding body_at
-returns-then-opcode-eq-REPORT c = rw (c.report_at.ensures, ne_eqb _ _ c.if-opcode-eq-GATE.false, eq-eqb _ _ c.if-opcode-eq-REPORT.true)
+pub returns-in-3 : goal.returns-in-3
+unfolding body_in_range body_at
+returns-in-3 c = search rules
 
-pub returns-then-opcode-eq-REGISTER_REQ : goal.returns-then-opcode-eq-REGISTER_REQ
-unfolding body_at
-returns-then-opcode-eq-REGISTER_REQ c =
-    rw (
-      c.register_req_at.ensures,
-      ne_eqb _ _ c.if-opcode-eq-GATE.false,
-      ne_eqb _ _ c.if-opcode-eq-REPORT.false,
-      eq-eqb _ _ c.if-opcode-eq-REGISTER_REQ.true,
-    )
+pub returns-in-4 : goal.returns-in-4
+unfolding body_in_range body_at
+returns-in-4 c = search rules
 
-pub returns-then-opcode-eq-REGISTER : goal.returns-then-opcode-eq-REGISTER
-unfolding body_at
-returns-then-opcode-eq-REGISTER c =
-    rw (
-      c.register_at.ensures,
-      ne_eqb _ _ c.if-opcode-eq-GATE.false,
-      ne_eqb _ _ c.if-opcode-eq-REPORT.false,
-      ne_eqb _ _ c.if-opcode-eq-REGISTER_REQ.false,
-      eq-eqb _ _ c.if-opcode-eq-REGISTER.true,
-    )
+pub returns-in-5 : goal.returns-in-5
+unfolding body_in_range body_at
+returns-in-5 c = search rules
 
-pub returns : goal.returns
-unfolding body_at
-returns c =
-    rw (
-      c.register_ack_at.ensures,
-      ne_eqb _ _ c.if-opcode-eq-GATE.false,
-      ne_eqb _ _ c.if-opcode-eq-REPORT.false,
-      ne_eqb _ _ c.if-opcode-eq-REGISTER_REQ.false,
-      ne_eqb _ _ c.if-opcode-eq-REGISTER.false,
-    )
+pub returns-in-6 : goal.returns-in-6
+unfolding body_in_range body_at
+returns-in-6 c = search rules
+
+pub returns-in_default : goal.returns-in_default
+unfolding body_in_range body_at
+returns-in_default c = search rules

@@ -15,8 +15,8 @@ pub returns : goal.returns
 returns c =
     let a = c.args in
     let width : a.at + a.n - a.at ≡ a.n = omega arith in
-    let sixty : length a.out ≡ 60 = omega arith in
-    let whole : length (take a.n (drop a.at a.out)) ≡ a.n =
-    length_part a.out a.at a.n (omega arith) in
+    let sixty : length a.o.now ≡ 60 = omega arith in
+    let whole : length (take a.n (drop a.at a.o.now)) ≡ a.n =
+    length_part a.o.now a.at a.n (omega arith) in
     let wide : length (bytes a.n a.x) ≡ a.n = length-onto a.n a.x [] ∙ add-zero a.n in
-    rw (c.put.ensures, over-is a.at a.out (bytes a.n a.x) (omega arith), width, whole, wide, drop-drop)
+    rw (c.put.ensures, over-is a.at a.o.now (bytes a.n a.x) (omega arith), width, whole, wide, drop-drop)

@@ -1,64 +1,25 @@
 -- `frame_writer::write_gate` meets its promise.
 -- Assumes nothing.
+use Rattle.std.proofs.Common.{rules}
 use Rattle.octets.specs.Octets.{onto}
 use Rattle.frame_writer.proofs.write_gate.Goals as goal
 
 pub returns-in-None : goal.returns-in-None
 unfolding onto
-returns-in-None c =
-    rw (
-      c.lay-o.ensures,
-      c.normal_octet.ensures,
-      c.begin.ensures,
-      c.in-None.is,
-    )
+returns-in-None c = search rules
 
 pub returns-in-One : goal.returns-in-One
 unfolding onto
-returns-in-One c =
-    rw (
-      c.lay_grant.ensures,
-      c.lay-o.ensures,
-      c.normal_octet.ensures,
-      c.begin.ensures,
-      c.in-One.is,
-    )
+returns-in-One c = search rules
 
 pub returns-in-Two : goal.returns-in-Two
 unfolding onto
-returns-in-Two c =
-    rw (
-      c.lay_grant-in-Two-2.ensures,
-      c.lay_grant-in-Two.ensures,
-      c.lay-o.ensures,
-      c.normal_octet.ensures,
-      c.begin.ensures,
-      c.in-Two.is,
-    )
+returns-in-Two c = search rules
 
 pub returns-in-Three : goal.returns-in-Three
 unfolding onto
-returns-in-Three c =
-    rw (
-      c.lay_grant-in-Three-3.ensures,
-      c.lay_grant-in-Three-2.ensures,
-      c.lay_grant-in-Three.ensures,
-      c.lay-o.ensures,
-      c.normal_octet.ensures,
-      c.begin.ensures,
-      c.in-Three.is,
-    )
+returns-in-Three c = search rules
 
 pub returns-in-Four : goal.returns-in-Four
 unfolding onto
-returns-in-Four c =
-    rw (
-      c.lay_grant-in-Four-3.ensures,
-      c.lay_grant-in-Four-2.ensures,
-      c.lay_grant-p.ensures,
-      c.lay_grant-in-Four.ensures,
-      c.lay-o.ensures,
-      c.normal_octet.ensures,
-      c.begin.ensures,
-      c.in-Four.is,
-    )
+returns-in-Four c = search rules

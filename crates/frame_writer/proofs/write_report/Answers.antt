@@ -1,6 +1,6 @@
 -- `frame_writer::write_report` meets its promise.
 -- Assumes nothing.
-use mathlib.Core.Path.{◌≡◌, ◌∙◌}
+use Rattle.std.proofs.Common.{◌≡◌, ◌∙◌, append-nil}
 use Rattle.frame.specs.Layout.{body_octets}
 use Rattle.octets.specs.Octets.{onto}
 use Rattle.frame_queues.specs.Laws.{cleared-length, cleared-octets, cut-is, forty-length, forty-octets, forty-sets}
@@ -15,12 +15,13 @@ returns c =
     let back : forty_of (sets_of (cut_of o)) ≡ cut_of o =
     forty-sets (cut_of o) (cleared-octets (used_of o) o (forty-octets s)) (cleared-length (used_of o) o ∙ forty-length s) in
     rw (
-      c.lay_body.ensures,
+      c.copy_from_slice.ensures.after,
+      c.octets-2.ensures,
+      c.cut.ensures,
+      c.used-used.ensures,
       c.octets.ensures,
-      c.cut-cut.ensures,
-      c.used-u.ensures,
-      c.octets-o.ensures,
-      c.begin.ensures,
+      c.begin-o.ensures,
       back,
+      append-nil,
       cut-is o (forty-length s),
     )

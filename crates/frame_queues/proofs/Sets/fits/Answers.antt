@@ -5,4 +5,4 @@ use Rattle.frame_queues.proofs.Sets.fits.Goals as goal
 
 pub returns : goal.returns
 unfolding fits_sets ends_at
-returns c = rw (c.ends.ensures, c.used.ensures, c.octets-o.ensures)
+returns c = rw (c.ends.ensures, c.used.ensures, c.octets.ensures)

@@ -9,8 +9,8 @@ unfolding onto forty_of
 returns c =
     rw (
       c.lay.ensures,
-      c.lay-d.ensures,
-      c.lay-c.ensures,
-      c.lay-b.ensures,
-      c.lay-a.ensures,
+      c.lay-o-4.ensures,
+      c.lay-o-3.ensures,
+      c.lay-o-2.ensures,
+      c.lay-o.ensures,
     )
