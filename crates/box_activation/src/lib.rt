@@ -4,73 +4,64 @@
 ghost use Rattle.std.specs.Prelude.{◌≡◌};
 ghost use Rattle.box_activation.specs.Activation.{light_up, begin, head_for, serve, activate};
 
-use box_grants::Chosen;
 use box_light::{Light, Phase};
 use box_processes::Processes;
-use clock::{Quanta, Reach, Span, Timer};
+use clock::{Quanta, Span, Timer};
 
 // The laser goes on for a grant, which is removed from the list.
 pub fn light_up(p: Processes, entry: Span, sync: Quanta) -> Processes
     ensures { result ≡ light_up p entry sync }
 {
-    let list = p.list;
-    let left = list.without(entry);
-    let timer = Light::laser_on(sync);
-    let length = entry.length;
-    let phase = Phase::Lit { length, sync };
-    let lit = Light { phase, timer };
-    p.with_list(left).with_light(lit)
+    let lit = Light {
+        phase: Phase::Lit {
+            length: entry.length,
+            sync,
+        },
+        timer: Light::laser_on(sync),
+    };
+    p.with_list(p.list.without(entry)).with_light(lit)
 }
 
 // The wait for a grant begins; a wait of 0 is passed.
+#[tactic(auto, unfolding(crate::specs::Activation::begin))]
 fn begin(p: Processes, entry: Span, sync: Quanta, wait: Quanta) -> Processes
     ensures { result ≡ begin p entry sync wait }
 {
-    let n = wait.0;
-    if n == 0 {
+    if wait.0 == 0 {
         return light_up(p, entry, sync);
     }
-    let timer = Timer::stopped().start(wait);
-    let phase = Phase::Due { entry, sync };
-    p.with_light(Light { phase, timer })
+    p.with_light(Light {
+        phase: Phase::Due { entry, sync },
+        timer: Timer::stopped().start(wait),
+    })
 }
 
-fn head_for(p: Processes, entry: Span, sync: Quanta, way: Reach) -> Processes
+fn head_for(p: Processes, entry: Span, sync: Quanta, way: Option<Quanta>) -> Processes
     ensures { result ≡ head_for p entry sync way }
 {
     match way {
-        Reach::Past => p,
-        Reach::Ahead(wait) => begin(p, entry, sync, wait),
+        None => p,
+        Some(wait) => begin(p, entry, sync, wait),
     }
 }
 
-fn serve(p: Processes, chosen: Chosen) -> Processes
+fn serve(p: Processes, chosen: Option<Span>) -> Processes
     ensures { result ≡ serve chosen p }
 {
     match chosen {
-        Chosen::Nothing => p,
-        Chosen::Due(entry) => {
-            let registration = p.registration;
-            let now = p.count;
-            let sync = registration.sync;
-            head_for(p, entry, sync, now.reach(entry.start))
-        }
+        None => p,
+        Some(entry) => head_for(p, entry, p.registration.sync, p.count.reach(entry.start)),
     }
 }
 
 // The end of every call: at rest and REGISTERED, the next grant is chosen.
+#[tactic(auto, unfolding(crate::specs::Activation::activate))]
 pub fn activate(p: Processes) -> Processes
     ensures { result ≡ activate p }
 {
-    let registration = p.registration;
-    let light = p.light;
-    if light.at_rest() & registration.is_registered() {
-        let list = p.list;
-        let now = p.count;
-        let choice = list.choose(now, Quanta::needed(registration.sync));
-        let left = choice.list;
-        let chosen = choice.chosen;
-        return serve(p.with_list(left), chosen);
+    if p.light.at_rest() & p.registration.is_registered() {
+        let choice = p.list.choose(p.count, Quanta::needed(p.registration.sync));
+        return serve(p.with_list(choice.list), choice.chosen);
     }
     p
 }

@@ -1,6 +1,6 @@
 -- Rules R13, R69, R99, R100, R125: what a call of the box is answered with.
 -- Assumes nothing.
-use Rattle.std.specs.Prelude.{ℤ, pos}
+use Rattle.std.specs.Prelude.{Option, None, Some, ℤ, pos}
 use Rattle.clock.specs.declared.Count.{Count}
 use Rattle.frame.specs.declared.Address.{Address}
 use Rattle.frame.specs.declared.Body.{Body}
@@ -10,8 +10,6 @@ use Rattle.frame.specs.declared.Reply.TheVariants.{Done}
 use Rattle.frame_writer.specs.Write.{write_of}
 use Rattle.box_telling.specs.Told.{no_notices, no_frames, handed}
 use Rattle.box_telling.specs.declared.Frames.{Frames}
-use Rattle.box_telling.specs.declared.Sent.{Sent}
-use Rattle.box_telling.specs.declared.Sent.TheVariants.{Nothing, Is}
 use Rattle.box_processes.specs.declared.Step.{Step}
 use Rattle.box_activation.specs.Activation.{activate}
 use Rattle.box_calls.specs.declared.FloorBox.{FloorBox}
@@ -29,9 +27,9 @@ refused b r = bare b r
 abbrev pub message_of : Address → Count → Body → Message
 message_of own now body = record { destination = record { 0 = 0x0180C2000001 }; source = own; timestamp = now; body = body }
 
-abbrev pub framed : Address → Count → Frames → Sent → Frames
-framed own now f Nothing = f
-framed own now f (Is body) = handed f (write_of (message_of own now body)).octets
+abbrev pub framed : Address → Count → Frames → Option Body → Frames
+framed own now f None = f
+framed own now f (Some body) = handed f (write_of (message_of own now body)).octets
 
 -- R100, R125
 unfoldable pub accepted : FloorBox → ℤ → Step → Answer

@@ -15,7 +15,7 @@ ghost use Rattle.box_calls.specs.Hear.{is_discovery, is_for, heard_of, hear_of};
 ghost use Rattle.box_calls.specs.Send.{fits_in, send_of};
 
 use box_processes::{Processes, Step};
-use box_telling::{Frames, Notices, Sent};
+use box_telling::{Frames, Notices};
 use clock::Count;
 use frame::{Address, Body, Message, Reply};
 use frame_queues::Sets;
@@ -47,23 +47,21 @@ pub struct Advanced {
 fn written(source: Address, now: Count, body: Body) -> [u8; 60]
     ensures { result ≡ (write_of (message_of source now body)).octets }
 {
-    let destination = Address::MULTICAST;
     let message = Message {
-        destination,
+        destination: Address::MULTICAST,
         source,
         timestamp: now,
         body,
     };
-    let writing = frame_writer::write(message);
-    writing.octets
+    frame_writer::write(message).octets
 }
 
-fn frame(source: Address, now: Count, frames: Frames, sent: Sent) -> Frames
+fn frame(source: Address, now: Count, frames: Frames, sent: Option<Body>) -> Frames
     ensures { result ≡ framed source now frames sent }
 {
     match sent {
-        Sent::Nothing => frames,
-        Sent::Is(body) => frames.and(written(source, now, body)),
+        None => frames,
+        Some(body) => frames.and(written(source, now, body)),
     }
 }
 
@@ -71,46 +69,44 @@ impl Answer {
     fn is_done(self) -> bool
         ensures { result ≡ is_done self }
     {
-        let reply = self.reply;
-        reply.number() == 0
+        self.reply == Reply::Done
     }
 
     // Neither a frame nor a notice.
     fn is_silent(self) -> bool
         ensures { result ≡ is_silent self }
     {
-        let frames = self.frames;
-        let notices = self.notices;
-        let first = notices.first;
-        (frames.number == 0) & first.is_nothing()
+        (self.frames.number == 0) & self.notices.first.is_nothing()
     }
 
     // The answer of the last of k quiet ticks after this one.
+    #[tactic(auto, unfolding(crate::specs::Leap::leap_of))]
     fn leap(self, k: u32) -> Answer
         ensures { result ≡ leap_of k self }
     {
         if k == 0 {
             return self;
         }
-        let b = self.next;
-        b.passed(k).bare(Reply::Done)
+        self.next.passed(k).bare(Reply::Done)
     }
 }
 
 impl FloorBox {
     // A box that has not begun; with another address than an individual one it is refused, and holds address zero.
+    #[tactic(auto, unfolding(crate::specs::Box::fresh_of))]
     pub fn fresh(address: Address) -> Answer
         ensures { result ≡ fresh_of address }
     {
-        let processes = Processes::fresh();
+        let fresh = FloorBox {
+            address,
+            processes: Processes::fresh(),
+        };
         if frame_range::individual(address) {
-            let ready = FloorBox { address, processes };
-            return ready.bare(Reply::Done);
+            return fresh.bare(Reply::Done);
         }
-        let nobody = Address(0);
         let blank = FloorBox {
-            address: nobody,
-            processes,
+            address: Address(0),
+            ..fresh
         };
         blank.refused(Reply::Range)
     }
@@ -118,9 +114,7 @@ impl FloorBox {
     pub fn sound(self) -> bool
         ensures { result ≡ sound_of self }
     {
-        let address = self.address;
-        let processes = self.processes;
-        frame_range::individual(address) & processes.sound()
+        frame_range::individual(self.address) & self.processes.sound()
     }
 
     // A number, and nothing else.
@@ -147,91 +141,81 @@ impl FloorBox {
     fn accepted(self, drift: i64, step: Step) -> Answer
         ensures { result ≡ accepted self drift step }
     {
-        let address = self.address;
-        let stepped = step.next;
-        let now = stepped.count;
-        let first = step.first;
-        let second = step.second;
-        let notices = step.notices;
-        let frames = frame(
-            address,
-            now,
-            frame(address, now, Frames::none(), first),
-            second,
-        );
-        let processes = box_activation::activate(stepped);
-        let next = FloorBox { address, processes };
+        let now = step.next.count;
+        let first = frame(self.address, now, Frames::none(), step.first);
+        let frames = frame(self.address, now, first, step.second);
+        let next = FloorBox {
+            address: self.address,
+            processes: box_activation::activate(step.next),
+        };
         Answer {
             reply: Reply::Done,
             drift,
             next,
             frames,
-            notices,
+            notices: step.notices,
         }
     }
 
     // The client asks to register.
+    #[tactic(auto, unfolding(crate::specs::Box::register_of))]
     pub fn register(self) -> Answer
         ensures { result ≡ register_of self }
     {
-        let processes = self.processes;
-        let registration = processes.registration;
+        let registration = self.processes.registration;
         if !self.sound() {
             return self.refused(Reply::Unsound);
         }
         if !registration.is_waiting() {
             return self.refused(Reply::State);
         }
-        let begun = processes.with_registration(registration.registering());
+        let begun = self.processes.with_registration(registration.registering());
         self.accepted(0, Step::still(begun))
     }
 
     // The client asks to deregister.
+    #[tactic(auto, unfolding(crate::specs::Box::deregister_of))]
     pub fn deregister(self) -> Answer
         ensures { result ≡ deregister_of self }
     {
-        let processes = self.processes;
-        let registration = processes.registration;
         if !self.sound() {
             return self.refused(Reply::Unsound);
         }
-        if !registration.is_registered() {
+        if !self.processes.registration.is_registered() {
             return self.refused(Reply::State);
         }
-        self.accepted(0, Step::local_deregister(processes))
+        self.accepted(0, Step::local_deregister(self.processes))
     }
 
     // The client asks for a REPORT with these queue sets.
+    #[tactic(auto, unfolding(crate::specs::Box::report_of))]
     pub fn report(self, sets: Sets) -> Answer
         ensures { result ≡ report_of sets self }
     {
-        let processes = self.processes;
-        let registration = processes.registration;
         if !self.sound() {
             return self.refused(Reply::Unsound);
         }
-        if !registration.is_registered() {
+        if !self.processes.registration.is_registered() {
             return self.refused(Reply::State);
         }
         if !sets.fits() {
             return self.refused(Reply::Range);
         }
-        self.accepted(0, Step::reporting(processes, sets))
+        self.accepted(0, Step::reporting(self.processes, sets))
     }
 
     // A message, with the caller's random number.
+    #[tactic(auto, unfolding(crate::specs::Hear::hear_of))]
     pub fn hear(self, message: Message, random: u32) -> Answer
         ensures { result ≡ hear_of self message random }
     {
-        let body = message.body;
-        let destination = message.destination;
         if !self.sound() {
             return self.refused(Reply::Unsound);
         }
-        if body.goes_to_head() {
+        if message.body.goes_to_head() {
             return self.refused(Reply::Direction);
         }
-        if !self.is_for(destination, body) {
+        if !self.is_for(message.destination, message.body) {
             return self.refused(Reply::Party);
         }
         if !frame_range::message(message) {
@@ -244,35 +228,27 @@ impl FloorBox {
     fn heard(self, message: Message, random: u32) -> Answer
         ensures { result ≡ heard_of self message random }
     {
-        let address = self.address;
-        let processes = self.processes;
-        let before = processes.count;
-        let body = message.body;
-        let destination = message.destination;
-        let timestamp = message.timestamp;
-        let drift = before.drift(timestamp);
-        let own = destination.0 == address.0;
-        let step = box_hearing::hear(processes.with_count(timestamp), body, own, random);
-        self.accepted(drift, step)
+        let drift = self.processes.count.drift(message.timestamp);
+        let own = message.destination == self.address;
+        let timed = self.processes.with_count(message.timestamp);
+        self.accepted(drift, box_hearing::hear(timed, message.body, own, random))
     }
 
     // A discovery GATE may carry 01-80-C2-00-00-01 instead of the box's address.
     fn is_for(self, destination: Address, body: Body) -> bool
         ensures { result ≡ is_for self destination body }
     {
-        let address = self.address;
-        let all = Address::MULTICAST;
-        (destination.0 == address.0) | (is_discovery(body) & (destination.0 == all.0))
+        (destination == self.address) | (is_discovery(body) & (destination == Address::MULTICAST))
     }
 
+    #[tactic(auto, unfolding(crate::specs::Box::tick_of))]
     pub fn tick(self) -> Answer
         ensures { result ≡ tick_of self }
     {
-        let processes = self.processes;
         if !self.sound() {
             return self.refused(Reply::Unsound);
         }
-        let step = box_ticking::tick(processes);
+        let step = box_ticking::tick(self.processes);
         if !step.ok {
             return self.refused(Reply::Window);
         }
@@ -280,12 +256,12 @@ impl FloorBox {
     }
 
     // How many ticks are sure to be done and to hand out nothing.
+    #[tactic(auto, unfolding(crate::specs::Pass::quiet_of))]
     fn quiet(self) -> u32
         ensures { result ≡ quiet_of self }
     {
-        let processes = self.processes;
         if self.sound() {
-            return processes.quiet();
+            return self.processes.quiet();
         }
         0
     }
@@ -294,10 +270,10 @@ impl FloorBox {
     fn passed(self, k: u32) -> FloorBox
         ensures { result ≡ passed_of self k }
     {
-        let address = self.address;
-        let before = self.processes;
-        let processes = before.passed(k);
-        FloorBox { address, processes }
+        FloorBox {
+            processes: self.processes.passed(k),
+            ..self
+        }
     }
 
     // Single ticks, at most n: those that are sure to be silent are passed at once.
@@ -307,12 +283,10 @@ impl FloorBox {
         let mut last = self.bare(Reply::Done);
         let mut made: u64 = 0;
         while made < n {
-            let at = last.next;
-            let k = clock::passing(at.quiet(), n - made);
+            let k = clock::passing(last.next.quiet(), n - made);
             let before = last.leap(k);
-            let there = before.next;
-            let r = there.tick();
-            let passed = made + k as u64;
+            let r = before.next.tick();
+            let passed = made + u64::from(k);
             if !r.is_done() {
                 if passed == 0 {
                     return Advanced { answer: r, made: 0 };
@@ -332,6 +306,7 @@ impl FloorBox {
     }
 
     // So many ticks in one call, up to the first that hands something out.
+    #[tactic(auto, unfolding(crate::specs::Advance::advance_of))]
     pub fn advance(self, n: u64) -> Advanced
         ensures { result ≡ advance_of self n }
     {
@@ -354,21 +329,16 @@ impl FloorBox {
     fn fits(self, n: usize) -> bool
         ensures { result ≡ fits_in (remaining self.processes.light) n }
     {
-        let processes = self.processes;
-        let light = processes.light;
-        let octets = 2 * light.remaining() as u64;
-        if octets < 24 {
-            return false;
-        }
-        n as u64 <= octets - 24
+        let octets = 2 * u64::from(self.processes.light.remaining());
+        octets.checked_sub(24).is_some_and(|most| n as u64 <= most)
     }
 
     // The waiting frame that goes next, or the empty part of the control frame's buffer.
+    #[tactic(auto, unfolding(crate::specs::Send::send_of))]
     pub fn next_to_send<'a>(self, control: &'a [u8], data: &'a [u8]) -> &'a [u8]
         ensures { (result.ref_ptr ≡ (send_of self control.entry «data».entry).ref_ptr) × (result.now ≡ (send_of self control.entry «data».entry).now) }
     {
-        let processes = self.processes;
-        let registration = processes.registration;
+        let registration = self.processes.registration;
         let c = control.len();
         let d = data.len();
         if (0 < c) & self.fits(c) {
@@ -384,24 +354,5 @@ impl FloorBox {
 fn is_discovery(body: Body) -> bool
     ensures { result ≡ is_discovery body }
 {
-    match body {
-        Body::Gate(_) => false,
-        Body::Discovery { grant: _, sync: _ } => true,
-        Body::Report(_) => false,
-        Body::RegisterReq {
-            flag: _,
-            pending: _,
-        } => false,
-        Body::Register {
-            port: _,
-            flag: _,
-            sync: _,
-            pending: _,
-        } => false,
-        Body::RegisterAck {
-            flag: _,
-            port: _,
-            sync: _,
-        } => false,
-    }
+    matches!(body, Body::Discovery { .. })
 }

@@ -1,5 +1,6 @@
 -- A choice takes the nearest grant, empties the list before it takes none, and loses none that serves.
 -- Assumes nothing.
+use Rattle.std.proofs.Common.{Option, None, Some}
 use Prim.Native.Nat.{ℕ, zero, suc, ◌≤◌}
 use mathlib.Core.Path.{◌≡◌, refl, sym, ap, subst, ◌∙◌}
 use mathlib.Core.Bool.{Bool, true, false, cond, true≢false, false≢true}
@@ -19,8 +20,6 @@ use Rattle.box_grants.specs.Nearest.{Nearest, EveryChoice}
 use Rattle.box_grants.specs.Keeps.{same-is, held-ahead, settle-holds, settle-shorter, listed-room}
 use Rattle.box_grants.specs.Laws.{packed-list, ahead-shorter, nearest_in, remove-fewer}
 use Rattle.box_grants.specs.Listed.{list_of, choose_of}
-use Rattle.box_grants.specs.declared.Chosen.{Chosen}
-use Rattle.box_grants.specs.declared.Chosen.TheVariants.{Nothing, Due}
 use Rattle.clock.specs.declared.Span.{Span}
 use Rattle.box_grants.specs.declared.GrantList.{GrantList}
 
@@ -168,9 +167,9 @@ others-held x n (y ∷ l) d h =
     (decided (same x y))
 
 module _ (now need : ℕ) where
-  abbrev First : List Span → Chosen → Type 0
-  First l Nothing = Unit {0}
-  First l (Due e) = Parts now l e
+  abbrev First : List Span → Option Span → Type 0
+  First l None = Unit {0}
+  First l (Some e) = Parts now l e
 
   settle-first : (k : ℕ) (l : List Span) → First (settle k now need l).list (settle k now need l).chosen
   unfolding settle
@@ -183,12 +182,12 @@ module _ (now need : ℕ) where
       (λ _. settle-first k (remove n (x ∷ l)))
 
   -- a turn for each grant is enough
-  abbrev is_due : Chosen → Bool
-  is_due Nothing = false
-  is_due (Due e) = true
+  abbrev is_due : Option Span → Bool
+  is_due None = false
+  is_due (Some e) = true
 
   abbrev Emptied : Left → Type 0
-  Emptied c = (c.chosen ≡ Nothing → c.list ≡ []) × (c.list ≡ [] → c.chosen ≡ Nothing)
+  Emptied c = (c.chosen ≡ None → c.list ≡ []) × (c.list ≡ [] → c.chosen ≡ None)
 
   settle-emptied : (k : ℕ) (l : List Span) → length l ≤ k → Emptied (settle k now need l)
   unfolding settle

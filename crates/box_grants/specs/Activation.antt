@@ -1,11 +1,9 @@
 -- Rules R24, R85, R126 to R128, R132: the choice of a grant. The list is a list, in order of arrival.
 -- Assumes nothing.
-use Rattle.std.specs.Prelude.{ℕ, zero, suc, Bool, false, cond, ◌||◌, List, [], ◌∷◌, leb}
+use Rattle.std.specs.Prelude.{Option, None, Some, ℕ, zero, suc, Bool, false, cond, ◌||◌, List, [], ◌∷◌, leb}
 use Rattle.clock.specs.Counts.{is_past, nearer}
 use Rattle.clock.specs.Spans.{same}
 use Rattle.clock.specs.declared.Span.{Span}
-use Rattle.box_grants.specs.declared.Chosen.{Chosen}
-use Rattle.box_grants.specs.declared.Chosen.TheVariants.{Nothing, Due}
 
 -- R24
 abbrev pub room : ℕ
@@ -34,16 +32,16 @@ remove e (x ∷ l) = cond (same e x) l (x ∷ remove e l)
 -- what is chosen, and the list that is left
 pub record Left : Type 0 where
   pub list : List Span
-  pub chosen : Chosen
+  pub chosen : Option Span
 
 -- R127, R128: of a list that has no past grants
 abbrev pub serve : ℕ → ℕ → List Span → (List Span → Left) → Left
-serve now need [] again = record { list = []; chosen = Nothing }
+serve now need [] again = record { list = []; chosen = None }
 serve now need (e ∷ l) again =
     let n = nearest now e l in
-    cond (leb need n.length.0) (record { list = e ∷ l; chosen = Due n }) (again (remove n (e ∷ l)))
+    cond (leb need n.length.0) (record { list = e ∷ l; chosen = Some n }) (again (remove n (e ∷ l)))
 
 -- R128: again, as often as there are grants
 unfoldable pub settle : ℕ → ℕ → ℕ → List Span → Left
-settle zero now need l = record { list = l; chosen = Nothing }
+settle zero now need l = record { list = l; chosen = None }
 settle (suc k) now need l = serve now need l (λ rest. settle k now need rest)

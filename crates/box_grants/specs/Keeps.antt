@@ -1,7 +1,7 @@
 -- Lemmas: what the steps on the list keep, so that a sound list stays sound, and what the grant that is chosen stands on.
 -- Assumes nothing.
 use Prim.Native.Nat.{ℕ, zero, suc, ◌+◌, ◌≤◌, ◌<◌, min}
-use Rattle.std.specs.Prelude.{◌≡◌, refl, Bool, true, false, cond, ◌||◌, eqb, ltb, leb}
+use Rattle.std.specs.Prelude.{Option, None, Some, ◌≡◌, refl, Bool, true, false, cond, ◌||◌, eqb, ltb, leb}
 use Rattle.std.proofs.Common.{◌∙◌, ⊎_elim, length-append, length-take, take-suc-set}
 use Rattle.std.proofs.Math.Bool.{or-true, and-eq-true_iff}
 use Rattle.std.proofs.lemmas.Bool.{false≢true}
@@ -18,8 +18,6 @@ use Rattle.box_grants.specs.Activation.{holds, ahead, nearest, remove, Left, set
 use Rattle.box_grants.specs.Laws.{packed-list, ahead-shorter, nearest_in}
 use Rattle.box_grants.specs.Listed.{list_of, packed, pushed, choose_of}
 use Rattle.box_grants.specs.Sound.{in_range, sound_of}
-use Rattle.box_grants.specs.declared.Chosen.{Chosen}
-use Rattle.box_grants.specs.declared.Chosen.TheVariants.{Nothing, Due}
 use Rattle.box_grants.specs.declared.GrantList.{GrantList}
 
 -- what is in the list
@@ -108,9 +106,9 @@ module _ (now need : ℕ) where
   settle-holds x k l = settle-keeps (λ r. holds x r ≡ true → holds x l ≡ true) (λ e r f h. f (remove-holds x e r h)) k l (λ h. h)
 
   -- what is chosen is in the list that is left, and long enough
-  abbrev Serves : List Span → Chosen → Type 0
-  Serves l Nothing = Unit {0}
-  Serves l (Due e) = (holds e l ≡ true) × (need ≤ e.length.0)
+  abbrev Serves : List Span → Option Span → Type 0
+  Serves l None = Unit {0}
+  Serves l (Some e) = (holds e l ≡ true) × (need ≤ e.length.0)
 
   settle-serves : (k : ℕ) (l : List Span) → Serves (settle k now need l).list (settle k now need l).chosen
   unfolding settle
@@ -122,14 +120,14 @@ module _ (now need : ℕ) where
       (λ t. (nearest_in now x l, leb-true need n.length.0 t))
       (λ _. settle-serves k (remove n (x ∷ l)))
 
-  pub settle-due : (k : ℕ) (l : List Span) (e : Span) → (settle k now need l).chosen ≡ Due e
+  pub settle-due : (k : ℕ) (l : List Span) (e : Span) → (settle k now need l).chosen ≡ Some e
       → (holds e (settle k now need l).list ≡ true) × (need ≤ e.length.0)
   settle-due k l e h = rw h at (settle-serves k l)
 
-  pub settle-due-range : (k : ℕ) (l : List Span) (e : Span) → in_range l ≡ true → (settle k now need l).chosen ≡ Due e → e.length.0 ≤ 65535
+  pub settle-due-range : (k : ℕ) (l : List Span) (e : Span) → in_range l ≡ true → (settle k now need l).chosen ≡ Some e → e.length.0 ≤ 65535
   settle-due-range k l e r h = held-range e (settle k now need l).list (settle-range k l r) (settle-due k l e h).0
 
-  pub settle-due-ahead : (k : ℕ) (l : List Span) (e : Span) → (settle k now need (ahead now l)).chosen ≡ Due e → is_past now e.start.0 ≡ false
+  pub settle-due-ahead : (k : ℕ) (l : List Span) (e : Span) → (settle k now need (ahead now l)).chosen ≡ Some e → is_past now e.start.0 ≡ false
   settle-due-ahead k l e h = held-ahead now e l (settle-holds e k (ahead now l) (settle-due k (ahead now l) e h).0)
 
 -- the array
@@ -220,9 +218,9 @@ pub record Ready (now need : ℕ) (l : List Span) (e : Span) : Type 0 where
   pub short : e.length.0 ≤ 65535
   pub due : is_past now e.start.0 ≡ false
 
-abbrev pub Fulfils : ℕ → ℕ → List Span → Chosen → Type 0
-Fulfils now need l Nothing = Unit {0}
-Fulfils now need l (Due e) = Ready now need l e
+abbrev pub Fulfils : ℕ → ℕ → List Span → Option Span → Type 0
+Fulfils now need l None = Unit {0}
+Fulfils now need l (Some e) = Ready now need l e
 
 module _ (now need : ℕ) (s : GrantList) where
   abbrev left : Left
@@ -244,9 +242,9 @@ module _ (now need : ℕ) (s : GrantList) where
     unfolding choose_of
     choose-sound = packed-sound left.list (settle-range now need (length (ahead now (list_of s))) (ahead now (list_of s)) ahead_in) left-room
 
-    fulfils : (c : Chosen) → left.chosen ≡ c → Fulfils now need left.list c
-    fulfils Nothing e = tt
-    fulfils (Due x) e =
+    fulfils : (c : Option Span) → left.chosen ≡ c → Fulfils now need left.list c
+    fulfils None e = tt
+    fulfils (Some x) e =
         let l = ahead now (list_of s) in
         let p = settle-due now need (length l) l x e in
         record {

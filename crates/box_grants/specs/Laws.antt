@@ -1,15 +1,17 @@
 -- Lemmas: what the code's steps on the array make of the list in it.
 -- Assumes nothing.
 use Prim.Native.Nat.{ℕ, suc, ◌+◌, ◌-◌, ◌≤◌, ◌<◌, min}
-use Rattle.std.specs.Prelude.{◌≡◌, Bool, true, false, cond, ◌&&◌, ◌||◌, ltb, leb, set, replicate, get_or}
+use Rattle.std.specs.Prelude.{None, Some, ◌≡◌, Bool, true, false, cond, ◌&&◌, ◌||◌, ltb, leb, set, replicate, get_or}
 use Rattle.std.proofs.Math.Path.{refl}
 use Rattle.std.proofs.Common.{sym, ap, ◌∙◌, ⊎_elim, length-append}
 use Rattle.std.proofs.Math.Bool.{or-true, or_assoc, or-false, and_assoc, and-true}
 use Rattle.std.proofs.lemmas.Bool.{false≢true}
+use Rattle.std.proofs.lemmas.Bool.Decides.{nat_tests}
 use mathlib.Core.List.{List, [], ◌∷◌, ◌++◌, foldl, append_assoc, append-nil}
 use native.Mathlib.Omega.{arith}
 use borrow.Author.Tests.{lt-ltb, le-ltb, le-leb, lt-leb, eq-eqb}
 use Rattle.std.proofs.Math.ListN.{length}
+use Rattle.std.specs.List.{fold, list_any, list_all}
 use Rattle.std.proofs.Math.Seq.{take-append_seam, set-append_seam}
 use Rattle.laws.specs.Cases.{either, cut}
 use Rattle.clock.specs.Counts.{is_past, nearer}
@@ -22,7 +24,6 @@ use Rattle.box_grants.specs.Sifting.{kept, sifted}
 use Rattle.box_grants.specs.Walk.{leaves, sift, Walked, walked}
 use Rattle.box_grants.specs.Sound.{in_range}
 use Rattle.box_grants.specs.declared.GrantList.{GrantList}
-use Rattle.box_grants.specs.declared.Chosen.TheVariants.{Nothing, Due}
 use Rattle.box_grants.specs.declared.Leaving.{Leaving}
 use Rattle.box_grants.specs.declared.Leaving.TheVariants.{Past, Equal}
 
@@ -124,6 +125,22 @@ pub sift-equal : (x : Span) (l : List Span) → sift (Equal x) false l ≡ remov
 sift-equal x [] = refl
 sift-equal x (e ∷ l) = rw (sift-all x l, sift-equal x l)
 
+pub nearest-fold : (now : ℕ) (e : Span) (l : List Span) → fold (nearer_of now) e l ≡ nearest now e l
+nearest-fold now e [] = refl
+nearest-fold now e (x ∷ l) = nearest-fold now (nearer_of now e x) l
+
+same-swap : (a b : Span) → same a b ≡ same b a
+same-swap a b = grind (arith, nat_tests)
+
+pub holds-any : (e : Span) (l : List Span) → list_any (λ (x : Span). same x e) l ≡ holds e l
+holds-any e [] = refl
+holds-any e (x ∷ l) = rw (same-swap x e, holds-any e l)
+
+pub range-all : (l : List Span) → list_all (λ (e : Span). leb e.length.0 65535) l ≡ in_range l
+range-all [] = refl
+range-all (e ∷ l) = rw (range-all l)
+
+-- the same of a walk that keeps what it has found so far
 pub nearest-walk : (now : ℕ) (e : Span) (l : List Span) → foldl (nearer_of now) e l ≡ nearest now e l
 nearest-walk now e [] = refl
 nearest-walk now e (x ∷ l) = nearest-walk now (nearer_of now e x) l
@@ -189,13 +206,13 @@ module _ (now : ℕ) where
 
   module _ (need : ℕ) where
     pub choice-found : (l : List Span) (e : Span) → 0 < length l → Nearest l e → need ≤ e.length.0
-        → record { list = packed l; chosen = Due e } ≡ choice_of (settle (length l) now need l)
+        → record { list = packed l; chosen = Some e } ≡ choice_of (settle (length l) now need l)
     unfolding settle
     choice-found [] e h n k = absurd (omega arith)
     choice-found (x ∷ l) e h n k = rw (← first-again x l, ← n, le-leb need e.length.0 k)
 
     turned : (k : ℕ) (x e n : Span) (l : List Span) → e ≡ n → e.length.0 < need
-        → cond (leb need n.length.0) (record { list = x ∷ l; chosen = Due n }) (settle k now need (remove n (x ∷ l))) ≡ settle k now need (remove e (x ∷ l))
+        → cond (leb need n.length.0) (record { list = x ∷ l; chosen = Some n }) (settle k now need (remove n (x ∷ l))) ≡ settle k now need (remove e (x ∷ l))
     turned k x e n l h j = rw (lt-leb need n.length.0 (rw h at j)) (ap (λ (y : Span). settle k now need (remove y (x ∷ l))) (sym h))
 
     pub choice-next : (l : List Span) (e : Span) → 0 < length l → Nearest l e → e.length.0 < need
@@ -211,7 +228,7 @@ module _ (now : ℕ) where
     pub choice-of : (s : GrantList) (p : Packs s) → settle (length p.list) now need p.list ≡ settle (length (list_of s)) now need (list_of s)
     choice-of s p = ap (λ (l : List Span). settle (length l) now need l) (sym (packs-list s p))
 
-    pub choice-none : (l : List Span) → length l ≤ 0 → record { list = packed l; chosen = Nothing } ≡ choice_of (settle (length l) now need l)
+    pub choice-none : (l : List Span) → length l ≤ 0 → record { list = packed l; chosen = None } ≡ choice_of (settle (length l) now need l)
     unfolding settle
     choice-none [] h = refl
     choice-none (x ∷ l) h = absurd (omega arith)

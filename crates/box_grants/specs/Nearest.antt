@@ -1,11 +1,9 @@
 -- Statement: what a choice takes, and what it leaves in the list (R126 to R128).
 -- Assumes nothing.
-use Rattle.std.specs.Prelude.{ℕ, ◌≤◌, ◌≡◌, true, false, List, [], ◌∷◌, ◌++◌}
+use Rattle.std.specs.Prelude.{Option, None, Some, ℕ, ◌≤◌, ◌≡◌, true, false, List, [], ◌∷◌, ◌++◌}
 use Rattle.clock.specs.Counts.{is_past, nearer}
 use Rattle.box_grants.specs.Activation.{holds}
 use Rattle.box_grants.specs.Listed.{list_of, choose_of}
-use Rattle.box_grants.specs.declared.Chosen.{Chosen}
-use Rattle.box_grants.specs.declared.Chosen.TheVariants.{Nothing, Due}
 use Rattle.clock.specs.declared.Span.{Span}
 use Rattle.box_grants.specs.declared.GrantList.{GrantList}
 
@@ -18,7 +16,7 @@ pub record Nearest (now : ℕ) (l : List Span) (e : Span) : Type 0 where
   pub no-nearer : (x : Span) → holds x after ≡ true → nearer now x.start.0 e.start.0 ≡ false
 
 module _ (now need : ℕ) (s : GrantList) where
-  abbrev pub chosen : Chosen
+  abbrev pub chosen : Option Span
   chosen = (choose_of now need s).chosen
 
   abbrev pub left : List Span
@@ -26,10 +24,10 @@ module _ (now need : ℕ) (s : GrantList) where
 
   pub record Chooses : Type 0 where
     -- the smallest distance, earliest arrival first
-    pub nearest : (e : Span) → chosen ≡ Due e → Nearest now left e
+    pub nearest : (e : Span) → chosen ≡ Some e → Nearest now left e
     -- it is repeated often enough: nothing is chosen just where nothing is left
-    pub none_left : chosen ≡ Nothing → left ≡ []
-    pub none-chosen : left ≡ [] → chosen ≡ Nothing
+    pub none_left : chosen ≡ None → left ≡ []
+    pub none-chosen : left ≡ [] → chosen ≡ None
     -- no past grant is left
     pub ahead : (x : Span) → holds x left ≡ true → is_past now x.start.0 ≡ false
     -- and none is lost that is not past and has the needed length

@@ -17,17 +17,11 @@ pub struct GrantList {
     pub number: usize,
 }
 
-// The grant to wait for, if there is one.
-#[derive(Clone, Copy)]
-pub enum Chosen {
-    Nothing,
-    Due(Span),
-}
-
+// A list without the grants that are past or too short, and the grant to wait for, if there is one.
 #[derive(Clone, Copy)]
 pub struct Choice {
     pub list: GrantList,
-    pub chosen: Chosen,
+    pub chosen: Option<Span>,
 }
 
 // A list on its way without an entry, and whether the entry was met.
@@ -41,18 +35,17 @@ impl Sieve {
     fn sift(self, out: Span, e: Span) -> Sieve
         ensures { result ≡ sifted out self e }
     {
-        let list = self.list;
         if self.met {
             return Sieve {
-                list: list.push(e),
+                list: self.list.push(e),
                 met: true,
             };
         }
-        if out.same(e) {
-            return Sieve { list, met: true };
+        if out == e {
+            return Sieve { met: true, ..self };
         }
         Sieve {
-            list: list.push(e),
+            list: self.list.push(e),
             met: false,
         }
     }
@@ -72,7 +65,7 @@ impl Leaving {
     {
         match self {
             Leaving::Past(now) => now.is_past(e.start),
-            Leaving::Equal(entry) => !gone & entry.same(e),
+            Leaving::Equal(entry) => !gone & (entry == e),
         }
     }
 }
@@ -86,34 +79,27 @@ impl GrantList {
     pub fn empty() -> GrantList
         ensures { result ≡ packed [] }
     {
-        let none = Span::none();
-        let entries = [none; 16];
-        GrantList { entries, number: 0 }
+        GrantList {
+            entries: [Span::none(); 16],
+            number: 0,
+        }
     }
 
     // How many are held: the number, at most sixteen.
     fn held(self) -> usize
         ensures { result ≡ min self.number room }
     {
-        let n = self.number;
-        if n < GrantList::ROOM {
-            return n;
-        }
-        GrantList::ROOM
+        self.number.min(GrantList::ROOM)
     }
 
     // One entry more, at the end, if there is room.
-    pub fn push(self, e: Span) -> GrantList
+    #[tactic(auto, unfolding(crate::specs::Listed::pushed))]
+    pub fn push(mut self, e: Span) -> GrantList
         ensures { result ≡ pushed self e }
     {
-        let n = self.number;
-        if n < GrantList::ROOM {
-            let mut entries = self.entries;
-            entries[n] = e;
-            return GrantList {
-                entries,
-                number: n + 1,
-            };
+        if self.number < GrantList::ROOM {
+            self.entries[self.number] = e;
+            self.number += 1;
         }
         self
     }
@@ -121,33 +107,15 @@ impl GrantList {
     pub fn holds(self, e: Span) -> bool
         ensures { result ≡ holds e (list_of self) }
     {
-        let entries = self.entries;
-        let n = self.held();
-        let mut met = false;
-        let mut i = 0;
-        while i < n {
-            let x = entries[i];
-            met = met | e.same(x);
-            i += 1;
-        }
-        met
+        self.entries[..self.held()].contains(&e)
     }
 
     // At most sixteen, and each of them as a frame can tell it.
     pub fn sound(self) -> bool
         ensures { result ≡ sound_of self }
     {
-        let entries = self.entries;
-        let n = self.held();
-        let mut fits = self.number <= GrantList::ROOM;
-        let mut i = 0;
-        while i < n {
-            let e = entries[i];
-            let length = e.length;
-            fits = fits & length.fits();
-            i += 1;
-        }
-        fits
+        self.number <= GrantList::ROOM
+            && self.entries[..self.held()].iter().all(|e| e.length.fits())
     }
 
     // One entry more, unless its start is past.
@@ -164,20 +132,14 @@ impl GrantList {
     fn sift(self, leaving: Leaving) -> GrantList
         ensures { result ≡ packed (sift leaving false (list_of self)) }
     {
-        let entries = self.entries;
-        let end = self.held();
-        let none = Span::none();
-        let mut stay = [none; 16];
+        let mut stay = [Span::none(); 16];
         let mut k = 0;
-        let mut i = 0;
-        while i < end {
-            let e = entries[i];
+        for (i, &e) in self.entries[..self.held()].iter().enumerate() {
             // Where one has left, fewer were stored than read.
             if !leaving.takes(k < i, e) {
                 stay[k] = e;
                 k += 1;
             }
-            i += 1;
         }
         GrantList {
             entries: stay,
@@ -196,16 +158,9 @@ impl GrantList {
     fn nearest(self, now: Count) -> Span
         ensures { result ≡ nearest now.0 (get_or self.entries 0 none) (list_of self) }
     {
-        let entries = self.entries;
-        let n = self.held();
-        let mut best = entries[0];
-        let mut i = 0;
-        while i < n {
-            let e = entries[i];
-            best = best.nearer(now, e);
-            i += 1;
-        }
-        best
+        let held = &self.entries[..self.held()];
+        held.iter()
+            .fold(self.entries[0], |best, &e| best.nearer(now, e))
     }
 
     // The list without the earliest that is equal to `out`.
@@ -222,18 +177,14 @@ impl GrantList {
         let mut list = self.ahead(now);
         while 0 < list.number {
             let e = list.nearest(now);
-            let length = e.length;
-            if need <= length.0 as u64 {
+            if need <= u64::from(e.length.0) {
                 return Choice {
                     list,
-                    chosen: Chosen::Due(e),
+                    chosen: Some(e),
                 };
             }
             list = list.without(e);
         }
-        Choice {
-            list,
-            chosen: Chosen::Nothing,
-        }
+        Choice { list, chosen: None }
     }
 }

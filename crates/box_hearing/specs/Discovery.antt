@@ -1,11 +1,9 @@
 -- Rules R106 to R109: a discovery GATE.
 -- Assumes nothing.
-use Rattle.std.specs.Prelude.{ℕ, Bool, cond, ◌&&◌, eqb}
+use Rattle.std.specs.Prelude.{Option, None, Some, ℕ, Bool, cond, ◌&&◌, eqb}
 use Rattle.clock.specs.Counts.{reach}
 use Rattle.clock.specs.Numbers.{start_in_range, serves, random_wait}
 use Rattle.clock.specs.declared.Quanta.{Quanta}
-use Rattle.clock.specs.declared.Reach.{Reach}
-use Rattle.clock.specs.declared.Reach.TheVariants.{Past, Ahead}
 use Rattle.frame.specs.declared.Grant.{Grant}
 use Rattle.box_light.specs.Light.{light_in, resting, is_at_rest, randomly}
 use Rattle.box_light.specs.declared.Light.{Light}
@@ -19,9 +17,9 @@ unfoldable pub random_for : Bool → ℕ → Quanta → Quanta → Quanta
 random_for own random length sync = record { 0 = cond own 0 (random_wait random length.0 sync.0) }
 
 -- R108
-abbrev pub called : Reach → Quanta → Quanta → Light
-called Past random sync = resting
-called (Ahead wait) random sync =
+abbrev pub called : Option Quanta → Quanta → Quanta → Light
+called None random sync = resting
+called (Some wait) random sync =
     cond (eqb wait.0 0) (randomly random sync) (light_in (Before random sync) (record { left = wait.0 }))
 
 -- R106, R107

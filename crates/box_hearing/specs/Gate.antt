@@ -1,6 +1,6 @@
 -- Rules R121 to R124: a normal GATE.
 -- Assumes nothing.
-use Rattle.std.specs.Prelude.{ℕ, true, cond, ◌&&◌, ltb}
+use Rattle.std.specs.Prelude.{None, ℕ, true, cond, ◌&&◌, ltb}
 use mathlib.Core.List.{List, foldl}
 use Rattle.clock.specs.Numbers.{start_in_range}
 use Rattle.clock.specs.declared.Span.{Span}
@@ -10,7 +10,6 @@ use Rattle.box_grants.specs.Listed.{pushed}
 use Rattle.box_registration.specs.Registration.{is_registered, heard}
 use Rattle.box_telling.specs.Told.{no_notices, added}
 use Rattle.box_telling.specs.declared.Notice.{Notice}
-use Rattle.box_telling.specs.declared.Sent.{Sent}
 use Rattle.box_processes.specs.Parts.{with_registration, with_list, still}
 use Rattle.box_processes.specs.declared.Processes.{Processes}
 use Rattle.box_processes.specs.declared.Step.{Step}
@@ -39,7 +38,7 @@ gated p grants =
       ok = true;
       next = with_list (with_registration p (heard p.registration)) t.list;
       notices = t.notices;
-      first = Sent.Nothing;
-      second = Sent.Nothing;
+      first = None;
+      second = None;
     })
     (still p)

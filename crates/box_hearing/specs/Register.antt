@@ -1,6 +1,6 @@
 -- Rules R114 to R119: REGISTER, in each state and for each flag.
 -- Assumes nothing.
-use Rattle.std.specs.Prelude.{ℕ, true, [], ◌∷◌}
+use Rattle.std.specs.Prelude.{None, Some, ℕ, true, [], ◌∷◌}
 use Rattle.clock.specs.declared.Quanta.{Quanta}
 use Rattle.frame_queues.specs.Queues.{no_sets}
 use Rattle.frame.specs.declared.Body.TheVariants.{Report, RegisterAck}
@@ -12,7 +12,6 @@ use Rattle.box_registration.specs.declared.State.{State}
 use Rattle.box_registration.specs.declared.State.TheVariants.{Wait, Registering, RegisterReq, Registered}
 use Rattle.box_telling.specs.Told.{notices_of}
 use Rattle.box_telling.specs.declared.Notice.{Notice}
-use Rattle.box_telling.specs.declared.Sent.{Sent}
 use Rattle.box_processes.specs.Parts.{with_registration, waiting, still}
 use Rattle.box_processes.specs.declared.Processes.{Processes}
 use Rattle.box_processes.specs.declared.Step.{Step}
@@ -24,8 +23,8 @@ admitted p port sync =
       ok = true;
       next = with_registration p (registered port sync);
       notices = notices_of (Notice.Registered ∷ []);
-      first = Sent.Is (RegisterAck RegisterAckFlag.Ack port sync);
-      second = Sent.Is (Report no_sets);
+      first = Some (RegisterAck RegisterAckFlag.Ack port sync);
+      second = Some (Report no_sets);
     }
 
 -- R115, R116
@@ -35,14 +34,14 @@ rejected p port sync =
       ok = true;
       next = waiting p;
       notices = notices_of (Notice.Refused ∷ []);
-      first = Sent.Is (RegisterAck RegisterAckFlag.Nack port sync);
-      second = Sent.Nothing;
+      first = Some (RegisterAck RegisterAckFlag.Nack port sync);
+      second = None;
     }
 
 -- R118
 abbrev pub left : Processes → Step
 left p =
-    record { ok = true; next = waiting p; notices = notices_of (Notice.Deregistered ∷ []); first = Sent.Nothing; second = Sent.Nothing }
+    record { ok = true; next = waiting p; notices = notices_of (Notice.Deregistered ∷ []); first = None; second = None }
 
 -- in REGISTER_REQ: R114, R115, R119
 abbrev pub asked : RegisterFlag → Processes → ℕ → Quanta → Step

@@ -13,8 +13,8 @@ use box_grants::GrantList;
 use box_light::{Light, Phase};
 use box_processes::{Processes, Step};
 use box_registration::State;
-use box_telling::{Notice, Notices, Sent};
-use clock::{Count, Quanta, Reach, Span, Timer};
+use box_telling::{Notice, Notices};
+use clock::{Count, Quanta, Span, Timer};
 use frame::{Body, Grant, Grants, RegisterAckFlag, RegisterFlag};
 use frame_queues::Sets;
 
@@ -27,18 +27,18 @@ struct Taking {
 
 impl Taking {
     // A grant is taken if its start is in range and the list has room.
+    #[tactic(auto, unfolding(crate::specs::Gate::taken))]
     fn take(self, now: Count, grant: Grant) -> Taking
         ensures { result ≡ taken now.0 self grant }
     {
-        let list = self.list;
-        let start = grant.start;
-        if now.start_in_range(start) & (list.number < GrantList::ROOM) {
-            let notices = self.notices;
-            let length = grant.length;
-            let entry = Span { start, length };
+        if now.start_in_range(grant.start) & (self.list.number < GrantList::ROOM) {
+            let entry = Span {
+                start: grant.start,
+                length: grant.length,
+            };
             return Taking {
-                list: list.push(entry),
-                notices: notices.and(Notice::Granted(grant)),
+                list: self.list.push(entry),
+                notices: self.notices.and(Notice::Granted(grant)),
             };
         }
         self
@@ -58,51 +58,41 @@ impl Taking {
     }
 }
 
+#[tactic(auto, unfolding(crate::specs::Discovery::random_for))]
 fn random_wait(own: bool, random: u32, length: Quanta, sync: Quanta) -> Quanta
     ensures { result ≡ random_for own random length sync }
 {
-    let need = Quanta::needed(sync);
-    let whole = length.0 as u64;
     if own {
         return Quanta(0);
     }
-    if need <= whole {
-        return Quanta((random as u64 % (whole - need + 1)) as u32);
-    }
-    Quanta(0)
+    let spare = u64::from(length.0).saturating_sub(Quanta::needed(sync));
+    Quanta((u64::from(random) % (spare + 1)) as u32)
 }
 
 // The wait for a discovery window's start begins; a wait of 0 is passed.
-fn call(way: Reach, random: Quanta, sync: Quanta) -> Light
+fn call(way: Option<Quanta>, random: Quanta, sync: Quanta) -> Light
     ensures { result ≡ called way random sync }
 {
     match way {
-        Reach::Past => Light::resting(),
-        Reach::Ahead(wait) => {
-            let n = wait.0;
-            if n == 0 {
-                return Light::randomly(random, sync);
-            }
-            let timer = Timer::stopped().start(wait);
-            let phase = Phase::Before { random, sync };
-            Light { phase, timer }
-        }
+        None => Light::resting(),
+        Some(Quanta(0)) => Light::randomly(random, sync),
+        Some(wait) => Light {
+            phase: Phase::Before { random, sync },
+            timer: Timer::stopped().start(wait),
+        },
     }
 }
 
+#[tactic(auto, unfolding(crate::specs::Discovery::discover))]
 fn discover(p: Processes, grant: Grant, sync: Quanta, own: bool, random: u32) -> Processes
     ensures { result ≡ discover p grant sync own random }
 {
-    let registration = p.registration;
-    let light = p.light;
-    let now = p.count;
-    let start = grant.start;
-    let length = grant.length;
-    let acts = registration.is_registering() & light.at_rest();
-    let serves = now.start_in_range(start) & (Quanta::needed(sync) <= length.0 as u64);
+    let acts = p.registration.is_registering() & p.light.at_rest();
+    let serves = p.count.start_in_range(grant.start)
+        & (Quanta::needed(sync) <= u64::from(grant.length.0));
     if acts & serves {
-        let wait = random_wait(own, random, length, sync);
-        return p.with_light(call(now.reach(start), wait, sync));
+        let wait = random_wait(own, random, grant.length, sync);
+        return p.with_light(call(p.count.reach(grant.start), wait, sync));
     }
     p
 }
@@ -110,37 +100,30 @@ fn discover(p: Processes, grant: Grant, sync: Quanta, own: bool, random: u32) ->
 fn admitted(p: Processes, port: u16, sync: Quanta) -> Step
     ensures { result ≡ admitted p port sync }
 {
-    let none = Notices::none();
-    let registration = p.registration;
-    let ack = Body::RegisterAck {
-        flag: RegisterAckFlag::Ack,
-        port,
-        sync,
-    };
     Step {
         ok: true,
-        next: p.with_registration(registration.registered(port, sync)),
-        notices: none.and(Notice::Registered),
-        first: Sent::Is(ack),
-        second: Sent::Is(Body::Report(Sets::NONE)),
+        next: p.with_registration(p.registration.registered(port, sync)),
+        notices: Notices::none().and(Notice::Registered),
+        first: Some(Body::RegisterAck {
+            flag: RegisterAckFlag::Ack,
+            port,
+            sync,
+        }),
+        second: Some(Body::Report(Sets::NONE)),
     }
 }
 
 fn rejected(p: Processes, port: u16, sync: Quanta) -> Step
     ensures { result ≡ rejected p port sync }
 {
-    let none = Notices::none();
-    let nack = Body::RegisterAck {
-        flag: RegisterAckFlag::Nack,
-        port,
-        sync,
-    };
     Step {
-        ok: true,
-        next: p.waiting(),
-        notices: none.and(Notice::Refused),
-        first: Sent::Is(nack),
-        second: Sent::Nothing,
+        notices: Notices::none().and(Notice::Refused),
+        first: Some(Body::RegisterAck {
+            flag: RegisterAckFlag::Nack,
+            port,
+            sync,
+        }),
+        ..Step::still(p.waiting())
     }
 }
 
@@ -148,10 +131,9 @@ fn asked(p: Processes, port: u16, flag: RegisterFlag, sync: Quanta) -> Step
     ensures { result ≡ asked flag p port sync }
 {
     match flag {
-        RegisterFlag::Reregister => Step::still(p),
-        RegisterFlag::Deregister => Step::still(p),
         RegisterFlag::Ack => admitted(p, port, sync),
         RegisterFlag::Nack => rejected(p, port, sync),
+        RegisterFlag::Reregister | RegisterFlag::Deregister => Step::still(p),
     }
 }
 
@@ -160,52 +142,38 @@ fn held(p: Processes, port: u16, flag: RegisterFlag, sync: Quanta) -> Step
 {
     match flag {
         RegisterFlag::Reregister => admitted(p, port, sync),
-        RegisterFlag::Deregister => {
-            let none = Notices::none();
-            Step {
-                ok: true,
-                next: p.waiting(),
-                notices: none.and(Notice::Deregistered),
-                first: Sent::Nothing,
-                second: Sent::Nothing,
-            }
-        }
-        RegisterFlag::Ack => Step::still(p),
-        RegisterFlag::Nack => Step::still(p),
+        RegisterFlag::Deregister => Step {
+            notices: Notices::none().and(Notice::Deregistered),
+            ..Step::still(p.waiting())
+        },
+        RegisterFlag::Ack | RegisterFlag::Nack => Step::still(p),
     }
 }
 
 fn register(p: Processes, port: u16, flag: RegisterFlag, sync: Quanta) -> Step
     ensures { result ≡ register_of p.registration.state flag p port sync }
 {
-    let registration = p.registration;
-    let state = registration.state;
-    match state {
-        State::Wait => Step::still(p),
-        State::Registering => Step::still(p),
+    match p.registration.state {
+        State::Wait | State::Registering => Step::still(p),
         State::RegisterReq => asked(p, port, flag, sync),
         State::Registered => held(p, port, flag, sync),
     }
 }
 
+#[tactic(auto, unfolding(crate::specs::Gate::gated))]
 fn gate(p: Processes, grants: Grants) -> Step
     ensures { result ≡ gated p (listed grants) }
 {
-    let registration = p.registration;
-    if registration.is_registered() {
-        let now = p.count;
-        let list = p.list;
-        let notices = Notices::none();
-        let t = Taking { list, notices };
-        let after = t.take_all(now, grants);
-        let left = after.list;
-        let told = after.notices;
+    if p.registration.is_registered() {
+        let t = Taking {
+            list: p.list,
+            notices: Notices::none(),
+        };
+        let after = t.take_all(p.count, grants);
+        let heard = p.with_registration(p.registration.heard());
         return Step {
-            ok: true,
-            next: p.with_registration(registration.heard()).with_list(left),
-            notices: told,
-            first: Sent::Nothing,
-            second: Sent::Nothing,
+            notices: after.notices,
+            ..Step::still(heard.with_list(after.list))
         };
     }
     Step::still(p)
@@ -218,21 +186,12 @@ pub fn hear(p: Processes, body: Body, own: bool, random: u32) -> Step
     match body {
         Body::Gate(grants) => gate(p, grants),
         Body::Discovery { grant, sync } => Step::still(discover(p, grant, sync, own, random)),
-        Body::Report(_) => Step::still(p),
-        Body::RegisterReq {
-            flag: _,
-            pending: _,
-        } => Step::still(p),
         Body::Register {
             port,
             flag,
             sync,
-            pending: _,
+            ..
         } => register(p, port, flag, sync),
-        Body::RegisterAck {
-            flag: _,
-            port: _,
-            sync: _,
-        } => Step::still(p),
+        Body::Report(_) | Body::RegisterReq { .. } | Body::RegisterAck { .. } => Step::still(p),
     }
 }

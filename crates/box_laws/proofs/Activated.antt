@@ -1,5 +1,6 @@
 -- Activation moves neither the count nor the registration.
 -- Assumes nothing.
+use Rattle.std.proofs.Common.{Option, None, Some}
 use mathlib.Core.Path.{◌≡◌, refl}
 use mathlib.Core.Bool.{◌&&◌}
 use lib.Dec.{eqb}
@@ -7,12 +8,8 @@ use Rattle.laws.specs.Cases.{either}
 use Rattle.clock.specs.Counts.{reach}
 use Rattle.clock.specs.Numbers.{needed}
 use Rattle.clock.specs.declared.Quanta.{Quanta}
-use Rattle.clock.specs.declared.Reach.{Reach}
-use Rattle.clock.specs.declared.Reach.TheVariants.{Past, Ahead}
 use Rattle.clock.specs.declared.Span.{Span}
 use Rattle.box_grants.specs.Listed.{choose_of}
-use Rattle.box_grants.specs.declared.Chosen.{Chosen}
-use Rattle.box_grants.specs.declared.Chosen.TheVariants.{Nothing, Due}
 use Rattle.box_light.specs.Light.{is_at_rest}
 use Rattle.box_registration.specs.Registration.{is_registered}
 use Rattle.box_processes.specs.Parts.{with_list}
@@ -26,13 +23,13 @@ begin-leaves : (p : Processes) (e : Span) (sync wait : Quanta) → Leaves p (beg
 unfolding begin light_up
 begin-leaves p e sync wait = either (Leaves p) (eqb wait.0 0) _ _ (λ _. (refl, refl)) (λ _. (refl, refl))
 
-head-leaves : (r : Reach) (p : Processes) (e : Span) (sync : Quanta) → Leaves p (head_for p e sync r)
-head-leaves Past p e sync = (refl, refl)
-head-leaves (Ahead wait) p e sync = begin-leaves p e sync wait
+head-leaves : (r : Option Quanta) (p : Processes) (e : Span) (sync : Quanta) → Leaves p (head_for p e sync r)
+head-leaves None p e sync = (refl, refl)
+head-leaves (Some wait) p e sync = begin-leaves p e sync wait
 
-serve-leaves : (c : Chosen) (p : Processes) → Leaves p (serve c p)
-serve-leaves Nothing p = (refl, refl)
-serve-leaves (Due e) p = head-leaves (reach p.count.0 e.start.0) p e p.registration.sync
+serve-leaves : (c : Option Span) (p : Processes) → Leaves p (serve c p)
+serve-leaves None p = (refl, refl)
+serve-leaves (Some e) p = head-leaves (reach p.count.0 e.start.0) p e p.registration.sync
 
 pub activate-leaves : (p : Processes) → Leaves p (activate p)
 unfolding activate

@@ -1,6 +1,6 @@
 -- Lemmas: R99: the frames of an accepted call are the encodings of valid messages.
 -- Assumes nothing.
-use Rattle.std.specs.Prelude.{◌^◌, ◌<◌, ◌≡◌, refl, true, eqb, ℤ}
+use Rattle.std.specs.Prelude.{Option, None, Some, ◌^◌, ◌<◌, ◌≡◌, refl, true, eqb, ℤ}
 use Rattle.std.proofs.Common.{ap, ◌∙◌, arith}
 use Rattle.std.proofs.Math.Bool.{and-eq-true_iff}
 use Rattle.clock.specs.Counts.{next_of}
@@ -17,8 +17,6 @@ use Rattle.frame_range.specs.Laws.{valid-of}
 use Rattle.frame_writer.proofs.Page.{write_done}
 use Rattle.box_telling.specs.Told.{no_frames, handed}
 use Rattle.box_telling.specs.declared.Frames.{Frames}
-use Rattle.box_telling.specs.declared.Sent.{Sent}
-use Rattle.box_telling.specs.declared.Sent.TheVariants.{Nothing, Is}
 use Rattle.box_processes.specs.Parts.{with_count}
 use Rattle.box_processes.specs.Sound.{sound_of as processes_sound}
 use Rattle.box_processes.specs.declared.Step.{Step}
@@ -55,13 +53,13 @@ message-valid : (own : Address) (now : Count) (body : Body) → is_individual ow
 message-valid own now body i h f =
     record { destination = omega arith; source = i; timestamp = h; body = f }
 
-sent-valid : (own : Address) (now : Count) (sent : Sent) → is_individual own ≡ true → now.0 < 2 ^ 32 → SentFits sent → SentValid own now sent
-sent-valid own now Nothing i h f = tt
-sent-valid own now (Is body) i h f = message-valid own now body i h f
+sent-valid : (own : Address) (now : Count) (sent : Option Body) → is_individual own ≡ true → now.0 < 2 ^ 32 → SentFits sent → SentValid own now sent
+sent-valid own now None i h f = tt
+sent-valid own now (Some body) i h f = message-valid own now body i h f
 
-framed-encoded : (own : Address) (now : Count) (f : Frames) (sent : Sent) → SentValid own now sent → framed own now f sent ≡ encoded own now f sent
-framed-encoded own now f Nothing v = refl
-framed-encoded own now f (Is body) v = ap (λ (w : Writing). handed f w.octets) (write_done (message_of own now body) v)
+framed-encoded : (own : Address) (now : Count) (f : Frames) (sent : Option Body) → SentValid own now sent → framed own now f sent ≡ encoded own now f sent
+framed-encoded own now f None v = refl
+framed-encoded own now f (Some body) v = ap (λ (w : Writing). handed f w.octets) (write_done (message_of own now body) v)
 
 accepted-frames : (b : FloorBox) (drift : ℤ) (s : Step) (now : Count) → is_individual b.address ≡ true → now.0 < 2 ^ 32 → Sends now s
     → Handed b.address now s.first s.second (accepted b drift s).frames

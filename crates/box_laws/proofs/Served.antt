@@ -1,5 +1,6 @@
 -- The laser serves a grant: it is waited for, lit, open and fading, and what comes at its end.
 -- Assumes nothing.
+use Rattle.std.proofs.Common.{Some}
 use Prim.Native.Nat.{ℕ, zero, suc, ◌+◌, ◌-◌, ◌^◌, ◌≤◌}
 use mathlib.Core.Path.{◌≡◌, refl, ap, ◌∙◌}
 use mathlib.Core.Bool.{false, ◌&&◌}
@@ -13,14 +14,12 @@ use Rattle.clock.specs.Counts.{distance, is_past, reach}
 use Rattle.clock.specs.Laws.{runs-in}
 use Rattle.clock.specs.Numbers.{laser_on, laser_off, needed}
 use Rattle.clock.specs.declared.Quanta.{Quanta}
-use Rattle.clock.specs.declared.Reach.TheVariants.{Ahead}
 use Rattle.clock.specs.declared.Span.{Span}
 use Rattle.clock.specs.declared.Timer.{Timer}
 use Rattle.box_grants.specs.Activation.{remove, settle}
 use Rattle.box_grants.specs.Keeps.{remove-shorter, listed-room}
 use Rattle.box_grants.specs.Laws.{packed-list}
 use Rattle.box_grants.specs.Listed.{list_of, packed, choose_of}
-use Rattle.box_grants.specs.declared.Chosen.TheVariants as chosen
 use Rattle.box_grants.specs.declared.GrantList.{GrantList}
 use Rattle.box_light.proofs.Laws.{served-in, due-parts, on-for}
 use Rattle.box_light.specs.Light.{light_in, resting, fading, laser_on_for, open_for, is_at_rest}
@@ -66,12 +65,12 @@ none-lit r e l =
     (either (λ (x : Processes). x.light ≡ resting) (is_at_rest r.light && is_registered r.registration.state) _ _ (λ _. e) (λ _. e))
 
 -- one that starts now
-now-ahead : (now start : ℕ) → distance now start ≡ pos 0 → (is_past now start ≡ false) × (reach now start ≡ Ahead (record { 0 = 0 }))
+now-ahead : (now start : ℕ) → distance now start ≡ pos 0 → (is_past now start ≡ false) × (reach now start ≡ Some (record { 0 = 0 }))
 unfolding is_past reach
 now-ahead now start e = (rw e, rw e)
 
 pub chosen-one : (now need : ℕ) (s : GrantList) (x : Span) → list_of s ≡ x ∷ [] → is_past now x.start.0 ≡ false → need ≤ x.length.0
-    → choose_of now need s ≡ record { list = packed (x ∷ []); chosen = chosen.Due x }
+    → choose_of now need s ≡ record { list = packed (x ∷ []); chosen = Some x }
 unfolding choose_of settle
 chosen-one now need s x e a f = rw (e, a, le-leb need x.length.0 f)
 

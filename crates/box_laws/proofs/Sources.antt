@@ -1,9 +1,11 @@
 -- The range test sees to the source of what is heard, the soundness of the box to that of its frames.
 -- Assumes nothing.
+use Rattle.std.proofs.Common.{Option, None, Some}
 use Prim.Native.Nat.{ℕ, zero, suc, ◌+◌, ◌^◌, ◌<◌}
 use mathlib.Core.Path.{ap}
 use native.Mathlib.Omega.{arith}
 use lib.Dec.{eqb}
+use Rattle.frame.specs.declared.Body.{Body}
 use Rattle.laws.specs.Cases.{either}
 use Rattle.laws.specs.Ticks.{ticks}
 use Rattle.clock.specs.Numbers.{is_in_reach}
@@ -17,8 +19,6 @@ use Rattle.frame_range.specs.Laws.{message-parts}
 use Rattle.frame_reader.proofs.Forth.{source-encoded}
 use Rattle.box_telling.specs.Told.{no_frames, handed}
 use Rattle.box_telling.specs.declared.Frames.{Frames}
-use Rattle.box_telling.specs.declared.Sent.{Sent}
-use Rattle.box_telling.specs.declared.Sent.TheVariants.{Nothing, Is}
 use Rattle.box_calls.specs.Advance.{is_done, is_silent, again, out, advance_of}
 use Rattle.box_calls.specs.Answer.{bare, message_of, accepted}
 use Rattle.box_calls.specs.Box.{sound_of}
@@ -45,12 +45,12 @@ one-sourced : (m : Message) → Valid m → Sourced (handed no_frames (encode m)
 unfolding handed
 one-sourced m v = record { first = λ _. source-encoded m v; second = λ k. absurd (omega (arith, k)) }
 
-handed-sourced : (own : Address) (now : Count) (one two : Sent) (f : Frames) → Handed own now one two f → Sourced f
+handed-sourced : (own : Address) (now : Count) (one two : Option Body) (f : Frames) → Handed own now one two f → Sourced f
 unfolding handed
-handed-sourced own now Nothing Nothing f h = rw h.frames none-sourced
-handed-sourced own now Nothing (Is body) f h = rw h.frames (one-sourced (message_of own now body) h.second-valid)
-handed-sourced own now (Is body) Nothing f h = rw h.frames (one-sourced (message_of own now body) h.first-valid)
-handed-sourced own now (Is body) (Is other) f h =
+handed-sourced own now None None f h = rw h.frames none-sourced
+handed-sourced own now None (Some body) f h = rw h.frames (one-sourced (message_of own now body) h.second-valid)
+handed-sourced own now (Some body) None f h = rw h.frames (one-sourced (message_of own now body) h.first-valid)
+handed-sourced own now (Some body) (Some other) f h =
     rw h.frames
     (record {
       first = λ _. source-encoded (message_of own now body) h.first-valid;

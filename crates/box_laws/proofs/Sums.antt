@@ -1,5 +1,6 @@
 -- Sums 11 and 12: the box that has heard the GATE waits 100 ticks for its first grant, and serves it.
 -- Assumes nothing.
+use Rattle.std.proofs.Common.{Some}
 use Prim.Native.Nat.{ℕ, zero, suc, ◌+◌, ◌^◌, ◌≤◌, ◌<◌}
 use mathlib.Core.Path.{◌≡◌, refl, ap, ◌∙◌}
 use mathlib.Core.Bool.{false}
@@ -13,7 +14,6 @@ use Rattle.clock.specs.Laws.{distance-near, is_past-near, reach_near, nearer-ahe
 use Rattle.clock.specs.Numbers.{needed}
 use Rattle.clock.specs.declared.Count.{Count}
 use Rattle.clock.specs.declared.Quanta.{Quanta}
-use Rattle.clock.specs.declared.Reach.TheVariants.{Ahead}
 use Rattle.frame.specs.Layout.{listed}
 use Rattle.frame.specs.declared.Grants.{Grants}
 use Rattle.frame.specs.declared.Grants.TheVariants.{One, Two}
@@ -21,7 +21,6 @@ use Rattle.frame.specs.declared.Message.{Message}
 use Rattle.box_grants.specs.Activation.{settle}
 use Rattle.box_grants.specs.Laws.{packed-list}
 use Rattle.box_grants.specs.Listed.{list_of, packed, choose_of}
-use Rattle.box_grants.specs.declared.Chosen.TheVariants as chosen
 use Rattle.clock.specs.declared.Span.{Span}
 use Rattle.box_grants.specs.declared.GrantList.{GrantList}
 use Rattle.box_light.specs.Light.{light_in, resting, laser_on_for}
@@ -67,8 +66,8 @@ first = record { start = record { 0 = 1100 }; length = record { 0 = 200 } }
 -- THE MESSAGE
 -- what activation waits for
 waits-for : (r : Processes) (x : Span) (l : List Span) (w : ℕ) → r.light ≡ resting → r.registration.state ≡ Registered
-    → choose_of r.count.0 (needed r.registration.sync.0) r.list ≡ record { list = packed l; chosen = chosen.Due x }
-    → reach r.count.0 x.start.0 ≡ Ahead (record { 0 = w }) → w ≢ 0
+    → choose_of r.count.0 (needed r.registration.sync.0) r.list ≡ record { list = packed l; chosen = Some x }
+    → reach r.count.0 x.start.0 ≡ Some (record { 0 = w }) → w ≢ 0
     → ((activate r).light ≡ light_in (Due x r.registration.sync) (record { left = w })) × ((activate r).list ≡ packed l)
 unfolding activate begin
 waits-for r x l w e i c a d = rw (e, i, c, a, ne_eqb w 0 d) (refl, refl)
@@ -76,7 +75,7 @@ waits-for r x l w e i c a d = rw (e, i, c, a, ne_eqb w 0 d) (refl, refl)
 -- the first of two that are ahead, where the other is not nearer
 chosen-first : (now need : ℕ) (s : GrantList) (e x : Span) → list_of s ≡ e ∷ x ∷ [] → is_past now e.start.0 ≡ false → is_past now x.start.0 ≡ false
     → nearer now x.start.0 e.start.0 ≡ false → need ≤ e.length.0
-    → choose_of now need s ≡ record { list = packed (e ∷ x ∷ []); chosen = chosen.Due e }
+    → choose_of now need s ≡ record { list = packed (e ∷ x ∷ []); chosen = Some e }
 unfolding choose_of settle
 chosen-first now need s e x l a b n f = rw (l, a, b, n, le-leb need e.length.0 f)
 
@@ -114,7 +113,7 @@ module _ (b : FloorBox) (m : Message) (random : ℕ) (grants : Grants) (u : Hear
   after-sync = ap (λ (q : Processes). q.registration.sync) heard-is ∙ rw ((activate-leaves r).1, gate-leaves.2) u.sync
 
   -- 100 ticks before its first grant, with these in its list
-  module _ (l : List Span) (c : choose_of 1000 (needed 10) r.list ≡ record { list = packed l; chosen = chosen.Due first }) where
+  module _ (l : List Span) (c : choose_of 1000 (needed 10) r.list ≡ record { list = packed l; chosen = Some first }) where
     chooses : ((activate r).light ≡ light_in (Due first (record { 0 = 10 })) (record { left = 100 })) × ((activate r).list ≡ packed l)
     chooses =
         let g = gate-leaves in

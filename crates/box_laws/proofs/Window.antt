@@ -1,5 +1,6 @@
 -- The light of a discovery GATE: the start is waited for, then the random wait, and then it is lit as a grant of just the needed length.
 -- Assumes nothing.
+use Rattle.std.proofs.Common.{Some}
 use Prim.Native.Nat.{ℕ, zero, suc, ◌+◌, ◌-◌, ◌≤◌}
 use mathlib.Core.Path.{◌≡◌, refl, ap, ◌∙◌}
 use mathlib.Core.Bool.{Bool, true, false, and-false, and-eq-true_iff}
@@ -12,7 +13,6 @@ use Rattle.laws.specs.Cases.{either, cut}
 use Rattle.clock.specs.Counts.{reach}
 use Rattle.clock.specs.Numbers.{laser_on, laser_off, furthest, quanta_of, needed, start_in_range, fits}
 use Rattle.clock.specs.declared.Quanta.{Quanta}
-use Rattle.clock.specs.declared.Reach.TheVariants.{Ahead}
 use Rattle.clock.specs.declared.Timer.{Timer}
 use Rattle.frame.specs.declared.Grant.{Grant}
 use Rattle.frame.specs.declared.Message.{Message}
@@ -103,7 +103,7 @@ random-warms (suc n) sync b o is =
     (λ c l u j h. random-ends 0 c l u h sync j) in
     record { dark = waits-dark Registering n 0 b t refl (any 0 (suc n + 0) b o) (Random sync) i refl refl refl (λ q. refl); lasts = x.lasts; warming = x.light }
 
-start-warms : (d r : ℕ) (sync : Quanta) (b : FloorBox) → Lasts Registering 0 b → light b ≡ called (Ahead (record { 0 = d })) (record { 0 = r }) sync → Warms (d + r) sync b
+start-warms : (d r : ℕ) (sync : Quanta) (b : FloorBox) → Lasts Registering 0 b → light b ≡ called (Some (record { 0 = d })) (record { 0 = r }) sync → Warms (d + r) sync b
 start-warms zero r sync b o is =
     let z : 0 + r ≡ r = omega arith in
     rw z (random-warms r sync b o is)
@@ -194,16 +194,16 @@ module _ (d : ℕ) (b : FloorBox) (m : Message) (random : ℕ) (grant : Grant) (
   unfolding start_in_range
   in-range = rw (u.start, le-leb 0 d (omega arith), le-leb d furthest u.near)
 
-  acts : discover p grant sync own random ≡ with_light p (called (Ahead (record { 0 = d })) (random_for own random grant.length sync) sync)
+  acts : discover p grant sync own random ≡ with_light p (called (Some (record { 0 = d })) (random_for own random grant.length sync) sync)
   unfolding discover reach
   acts = rw (u.registering, u.rest, in-range, u.long, u.start)
 
-  calm : activate (with_light p (called (Ahead (record { 0 = d })) (random_for own random grant.length sync) sync))
-      ≡ with_light p (called (Ahead (record { 0 = d })) (random_for own random grant.length sync) sync)
+  calm : activate (with_light p (called (Some (record { 0 = d })) (random_for own random grant.length sync) sync))
+      ≡ with_light p (called (Some (record { 0 = d })) (random_for own random grant.length sync) sync)
   unfolding activate
   calm = rw u.registering (simp and-false refl)
 
-  heard-is : (hear_of b m random).next.processes ≡ with_light p (called (Ahead (record { 0 = d })) (random_for own random grant.length sync) sync)
+  heard-is : (hear_of b m random).next.processes ≡ with_light p (called (Some (record { 0 = d })) (random_for own random grant.length sync) sync)
   unfolding accepted
   heard-is =
       ap (λ (x : Answer). x.next.processes) (call-accepted (hear m random) b u.accepted).answered

@@ -1,6 +1,6 @@
 -- Lemmas: activation keeps the processes sound.
 -- Assumes nothing.
-use Rattle.std.specs.Prelude.{◌^◌, ◌<◌, ◌≡◌, true, false, ◌&&◌, ◌≢◌, eqb}
+use Rattle.std.specs.Prelude.{Option, None, Some, ◌^◌, ◌<◌, ◌≡◌, true, false, ◌&&◌, ◌≢◌, eqb}
 use Rattle.std.proofs.Math.Bool.{and-eq-true_iff}
 use Rattle.std.proofs.lemmas.Bool.{false≢true}
 use Rattle.std.proofs.Common.{⊎_elim, arith}
@@ -14,8 +14,6 @@ use Rattle.clock.specs.declared.Span.{Span}
 use Rattle.box_grants.specs.Activation.{holds, remove}
 use Rattle.box_grants.specs.Keeps.{Fulfils, without-sound, without-entries, choose-entries, choose-sound, choose-fulfils}
 use Rattle.box_grants.specs.Listed.{list_of, packed, choose_of}
-use Rattle.box_grants.specs.declared.Chosen.{Chosen}
-use Rattle.box_grants.specs.declared.Chosen.TheVariants.{Nothing, Due}
 use Rattle.box_light.proofs.Laws.{served-of, rest-sound, due-sound, lit-sound}
 use Rattle.box_light.specs.Light.{light_in, is_at_rest}
 use Rattle.box_light.specs.Sound.{served}
@@ -64,10 +62,10 @@ module _ (p : Processes) (s : Sound p) where
         let some : wait.0 ≢ 0 = eqb-false wait.0 0 t in
         shone p s due (due-sound p.list wait.0 e sync (omega arith) k h f) (rw on))
 
-serve-keeps : (c : Chosen) (p : Processes) → Sound p → Fulfils p.count.0 (needed p.registration.sync.0) (list_of p.list) c
+serve-keeps : (c : Option Span) (p : Processes) → Sound p → Fulfils p.count.0 (needed p.registration.sync.0) (list_of p.list) c
     → Sound (serve c p)
-serve-keeps Nothing p s r = s
-serve-keeps (Due e) p s r =
+serve-keeps None p s r = s
+serve-keeps (Some e) p s r =
     let sync = p.registration.sync in
     let near = near_of p.count.0 e.start.0 r.due in
     rw (reach_near p.count.0 e.start.0 near)

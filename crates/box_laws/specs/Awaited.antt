@@ -1,6 +1,6 @@
 -- Lemmas: a discovery window is on its way only in REGISTERING: every step keeps that, and then no tick is answered 14.
 -- Assumes nothing.
-use Rattle.std.specs.Prelude.{ℕ, ◌≡◌, refl, Bool, true, false, ◌&&◌, List, eqb}
+use Rattle.std.specs.Prelude.{Option, None, Some, ℕ, ◌≡◌, refl, Bool, true, false, ◌&&◌, List, eqb}
 use Rattle.std.proofs.Common.{sym, ◌∙◌}
 use Rattle.std.proofs.Math.Bool.{and-eq-true_iff}
 use Rattle.std.proofs.lemmas.Bool.{false≢true}
@@ -9,8 +9,6 @@ use Rattle.clock.specs.Counts.{reach, next_of}
 use Rattle.clock.specs.Numbers.{start_in_range, needed, serves}
 use Rattle.clock.specs.Timers.{ticked}
 use Rattle.clock.specs.declared.Quanta.{Quanta}
-use Rattle.clock.specs.declared.Reach.{Reach}
-use Rattle.clock.specs.declared.Reach.TheVariants.{Past, Ahead}
 use Rattle.clock.specs.declared.Span.{Span}
 use Rattle.frame.specs.Layout.{listed}
 use Rattle.frame.specs.declared.Body.{Body}
@@ -19,8 +17,6 @@ use Rattle.frame.specs.declared.Grant.{Grant}
 use Rattle.frame.specs.declared.RegisterFlag.{RegisterFlag}
 use Rattle.frame.specs.declared.RegisterFlag.TheVariants.{Reregister, Deregister, Ack, Nack}
 use Rattle.box_grants.specs.Listed.{choose_of}
-use Rattle.box_grants.specs.declared.Chosen.{Chosen}
-use Rattle.box_grants.specs.declared.Chosen.TheVariants as chosen
 use Rattle.box_light.specs.Light.{randomly, is_at_rest}
 use Rattle.box_light.specs.Tick.{after, tick_of as light_tick}
 use Rattle.box_light.specs.declared.Beam.{Beam}
@@ -77,13 +73,13 @@ begin-calm : (p : Processes) (e : Span) (sync wait : Quanta) → Calm (begin p e
 unfolding begin light_up
 begin-calm p e sync wait = either Calm (eqb wait.0 0) _ _ (λ _. none) (λ _. none)
 
-head-calm : (r : Reach) (p : Processes) (e : Span) (sync : Quanta) → Calm p → Calm (head_for p e sync r)
-head-calm Past p e sync h = h
-head-calm (Ahead wait) p e sync h = begin-calm p e sync wait
+head-calm : (r : Option Quanta) (p : Processes) (e : Span) (sync : Quanta) → Calm p → Calm (head_for p e sync r)
+head-calm None p e sync h = h
+head-calm (Some wait) p e sync h = begin-calm p e sync wait
 
-serve-calm : (c : Chosen) (p : Processes) → Calm p → Calm (serve c p)
-serve-calm chosen.Nothing p h = h
-serve-calm (chosen.Due e) p h = head-calm (reach p.count.0 e.start.0) p e p.registration.sync h
+serve-calm : (c : Option Span) (p : Processes) → Calm p → Calm (serve c p)
+serve-calm None p h = h
+serve-calm (Some e) p h = head-calm (reach p.count.0 e.start.0) p e p.registration.sync h
 
 pub activate-calm : (p : Processes) → Calm p → Calm (activate p)
 unfolding activate

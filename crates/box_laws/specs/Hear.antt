@@ -1,6 +1,6 @@
 -- Lemmas: every message that is in range keeps the processes sound.
 -- Assumes nothing.
-use Rattle.std.specs.Prelude.{ℕ, ◌≤◌, ◌≡◌, refl, Bool, true, ◌&&◌, List, ◌≢◌, eqb}
+use Rattle.std.specs.Prelude.{Option, None, Some, ℕ, ◌≤◌, ◌≡◌, refl, Bool, true, ◌&&◌, List, ◌≢◌, eqb}
 use Rattle.std.proofs.Common.{sym, ◌∙◌, arith, leb-true}
 use Rattle.std.proofs.Math.Bool.{and-eq-true_iff}
 use Rattle.std.proofs.lemmas.Bool.{eqb-false}
@@ -9,8 +9,6 @@ use Rattle.clock.specs.Counts.{reach}
 use Rattle.clock.specs.Laws.{reach_in_range, start-reach}
 use Rattle.clock.specs.Numbers.{furthest, start_in_range, needed, serves, fits}
 use Rattle.clock.specs.declared.Quanta.{Quanta}
-use Rattle.clock.specs.declared.Reach.{Reach}
-use Rattle.clock.specs.declared.Reach.TheVariants.{Past, Ahead}
 use Rattle.frame.specs.Layout.{listed}
 use Rattle.frame.specs.declared.Body.{Body}
 use Rattle.frame.specs.declared.Body.TheVariants.{Gate, Discovery, Report, RegisterReq as Request, Register, RegisterAck}
@@ -51,10 +49,10 @@ gated-keeps p gs s h =
     (λ _. s)
 
 -- a discovery GATE
-called-sound : (r : Reach) (l : GrantList) (random sync : Quanta) → reach_in_range r ≡ true → wait_fits random.0 sync ≡ true
+called-sound : (r : Option Quanta) (l : GrantList) (random sync : Quanta) → reach_in_range r ≡ true → wait_fits random.0 sync ≡ true
     → light_sound (called r random sync) l ≡ true
-called-sound Past l random sync h f = resting-sound l
-called-sound (Ahead wait) l random sync h f =
+called-sound None l random sync h f = resting-sound l
+called-sound (Some wait) l random sync h f =
     either (λ (x : Light). light_sound x l ≡ true) (eqb wait.0 0) _ _ (λ _. randomly-sound l random sync f)
     (λ t.
     let some : wait.0 ≢ 0 = eqb-false wait.0 0 t in

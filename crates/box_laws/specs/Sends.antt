@@ -1,6 +1,6 @@
 -- Lemmas: what each call of the box sends fits its fields, and the count that it leaves.
 -- Assumes nothing.
-use Rattle.std.specs.Prelude.{ℕ, ◌^◌, ◌<◌, ◌≡◌, refl, Bool, ◌&&◌, List}
+use Rattle.std.specs.Prelude.{Option, None, Some, ℕ, ◌^◌, ◌<◌, ◌≡◌, refl, Bool, ◌&&◌, List}
 use Rattle.std.proofs.Common.{◌∙◌, arith}
 use Rattle.laws.specs.Cases.{either}
 use Rattle.clock.specs.Counts.{next_of}
@@ -23,8 +23,6 @@ use Rattle.box_registration.specs.Tick.{tick_of as registration_tick}
 use Rattle.box_registration.specs.declared.Bell.{Bell}
 use Rattle.box_registration.specs.declared.State.{State}
 use Rattle.box_registration.specs.declared.State.TheVariants.{Wait, Registering, RegisterReq, Registered}
-use Rattle.box_telling.specs.declared.Sent.{Sent}
-use Rattle.box_telling.specs.declared.Sent.TheVariants.{Nothing, Is}
 use Rattle.box_processes.specs.Parts.{with_count, with_registration, with_light}
 use Rattle.box_processes.specs.declared.Processes.{Processes}
 use Rattle.box_processes.specs.declared.Step.{Step}
@@ -36,9 +34,9 @@ use Rattle.box_hearing.specs.Hear.{hear_of}
 use Rattle.box_hearing.specs.Register.{register_of}
 
 -- what is sent fits its fields
-abbrev pub SentFits : Sent → Type 0
-SentFits Nothing = Unit {0}
-SentFits (Is body) = BodyFits body
+abbrev pub SentFits : Option Body → Type 0
+SentFits None = Unit {0}
+SentFits (Some body) = BodyFits body
 
 -- a step that leaves this count, and sends what fits
 pub record Sends (now : Count) (s : Step) : Type 0 where

@@ -52,17 +52,7 @@ impl Phase {
     fn rests(self) -> bool
         ensures { result ≡ rests self }
     {
-        match self {
-            Phase::Rest => true,
-            Phase::Before { random: _, sync: _ } => false,
-            Phase::Random { sync: _ } => false,
-            Phase::Warming => false,
-            Phase::Asking => false,
-            Phase::Due { entry: _, sync: _ } => false,
-            Phase::Lit { length: _, sync: _ } => false,
-            Phase::Open => false,
-            Phase::Fading => false,
-        }
+        matches!(self, Phase::Rest)
     }
 
     // What follows when its timer has rung.
@@ -71,11 +61,10 @@ impl Phase {
     {
         match self {
             Phase::Rest => with_beam(Phase::Rest, Timer::stopped(), Beam::Quiet),
-            Phase::Before { random, sync } => {
-                let light = Light::randomly(random, sync);
-                let phase = light.phase;
-                with_beam(phase, light.timer, Beam::Quiet)
-            }
+            Phase::Before { random, sync } => LightTicked {
+                light: Light::randomly(random, sync),
+                beam: Beam::Quiet,
+            },
             Phase::Random { sync } => with_beam(Phase::Warming, Light::laser_on(sync), Beam::Quiet),
             Phase::Warming => {
                 let timer = Timer::stopped().start(Quanta::FRAME);
@@ -109,12 +98,12 @@ impl Phase {
             Phase::Warming => timer.runs(Light::LONGEST_WARMING),
             Phase::Asking => timer.runs(Quanta::FRAME),
             Phase::Due { entry, sync } => {
-                let length = entry.length;
-                timer.runs(Light::LONGEST_DUE) & list.holds(entry) & Light::served(length, sync)
+                timer.runs(Light::LONGEST_DUE)
+                    & list.holds(entry)
+                    & Light::served(entry.length, sync)
             }
             Phase::Lit { length, sync } => {
-                let full = Light::laser_on(sync);
-                timer.runs(Quanta(full.left)) & Light::served(length, sync)
+                timer.runs(Quanta(Light::laser_on(sync).left)) & Light::served(length, sync)
             }
             Phase::Open => timer.runs(Light::LONGEST_OPEN),
             Phase::Fading => timer.runs(Quanta::LASER_OFF),
@@ -145,32 +134,24 @@ impl Light {
     pub fn laser_on(sync: Quanta) -> Timer
         ensures { result ≡ laser_on_for sync }
     {
-        let on = Quanta::LASER_ON;
-        let both = std::num::wrapping_add_u32(on.0, sync.0);
-        Timer::stopped().start(Quanta(both))
+        Timer::stopped().start(Quanta(Quanta::LASER_ON.0.wrapping_add(sync.0)))
     }
 
     // What a grant's length leaves to transmission: the laser settles before it and goes dark behind it.
     fn open_for(length: Quanta, sync: Quanta) -> Timer
         ensures { result ≡ open_for length sync }
     {
-        let on = Quanta::LASER_ON;
-        let off = Quanta::LASER_OFF;
-        let gone = on.0 as u64 + sync.0 as u64 + off.0 as u64;
-        let whole = length.0 as u64;
-        if gone <= whole {
-            let left = (whole - gone) as u32;
-            return Timer::stopped().start(Quanta(left));
-        }
-        Timer::stopped()
+        let lasers = u64::from(Quanta::LASER_ON.0) + u64::from(Quanta::LASER_OFF.0);
+        let left = u64::from(length.0).saturating_sub(lasers + u64::from(sync.0));
+        Timer::stopped().start(Quanta(left as u32))
     }
 
     // The random wait begins; a wait of 0 is passed.
+    #[tactic(auto, unfolding(crate::specs::Light::randomly))]
     pub fn randomly(random: Quanta, sync: Quanta) -> Light
         ensures { result ≡ randomly random sync }
     {
-        let n = random.0;
-        if n == 0 {
+        if random.0 == 0 {
             return Light {
                 phase: Phase::Warming,
                 timer: Light::laser_on(sync),
@@ -185,26 +166,16 @@ impl Light {
     pub fn at_rest(self) -> bool
         ensures { result ≡ is_at_rest self }
     {
-        let phase = self.phase;
-        phase.rests()
+        self.phase.rests()
     }
 
     // The ticks that are left to transmission; none while it is disabled.
     pub fn remaining(self) -> u32
         ensures { result ≡ remaining self }
     {
-        let phase = self.phase;
-        let timer = self.timer;
-        match phase {
-            Phase::Rest => 0,
-            Phase::Before { random: _, sync: _ } => 0,
-            Phase::Random { sync: _ } => 0,
-            Phase::Warming => 0,
-            Phase::Asking => timer.left,
-            Phase::Due { entry: _, sync: _ } => 0,
-            Phase::Lit { length: _, sync: _ } => 0,
-            Phase::Open => timer.left,
-            Phase::Fading => 0,
+        match self.phase {
+            Phase::Asking | Phase::Open => self.timer.left,
+            _ => 0,
         }
     }
 
@@ -212,52 +183,48 @@ impl Light {
     fn wait_fits(n: u32, sync: Quanta) -> bool
         ensures { result ≡ wait_fits n sync }
     {
-        let most = Quanta::MOST;
-        Quanta::needed(sync) + n as u64 <= most.0 as u64
+        Quanta::needed(sync) + u64::from(n) <= u64::from(Quanta::MOST.0)
     }
 
     // A grant of sixteen bits, long enough for its sync.
     fn served(length: Quanta, sync: Quanta) -> bool
         ensures { result ≡ served length sync }
     {
-        (Quanta::needed(sync) <= length.0 as u64) & length.fits()
+        (Quanta::needed(sync) <= u64::from(length.0)) & length.fits()
     }
 
     pub fn sound(self, list: GrantList) -> bool
         ensures { result ≡ sound_of self list }
     {
-        let phase = self.phase;
-        phase.sound(self.timer, list)
+        self.phase.sound(self.timer, list)
     }
 
+    #[tactic(auto, unfolding(crate::specs::Tick::tick_of))]
     pub fn tick(self) -> LightTicked
         ensures { result ≡ tick_of self }
     {
-        let phase = self.phase;
-        let before = self.timer;
-        let t = before.tick();
+        let t = self.timer.tick();
         if t.rang {
-            return phase.after();
+            return self.phase.after();
         }
-        with_beam(phase, t.timer, Beam::Quiet)
+        with_beam(self.phase, t.timer, Beam::Quiet)
     }
 
     // After k ticks, at none of which its timer rings.
     pub fn passed(self, k: u32) -> Light
         ensures { result ≡ passed_of self k }
     {
-        let phase = self.phase;
-        let before = self.timer;
-        let timer = before.passed(k);
-        Light { phase, timer }
+        Light {
+            timer: self.timer.passed(k),
+            ..self
+        }
     }
 
     // How many ticks come before the one at which its timer rings.
     pub fn quiet(self) -> u32
         ensures { result ≡ quiet_of self }
     {
-        let timer = self.timer;
-        timer.quiet()
+        self.timer.quiet()
     }
 }
 
@@ -272,6 +239,8 @@ fn order_off(beam: Beam) -> LightTicked
 fn with_beam(phase: Phase, timer: Timer, beam: Beam) -> LightTicked
     ensures { result ≡ record { light = light_in phase timer; beam = beam } }
 {
-    let light = Light { phase, timer };
-    LightTicked { light, beam }
+    LightTicked {
+        light: Light { phase, timer },
+        beam,
+    }
 }

@@ -1,6 +1,6 @@
 -- Rules R90, R95: the processes of a fresh box, entering WAIT, and each part set by itself.
 -- Assumes nothing.
-use Rattle.std.specs.Prelude.{true, []}
+use Rattle.std.specs.Prelude.{None, true, []}
 use Rattle.clock.specs.declared.Count.{Count}
 use Rattle.box_grants.specs.Listed.{packed}
 use Rattle.box_grants.specs.declared.GrantList.{GrantList}
@@ -9,7 +9,6 @@ use Rattle.box_light.specs.declared.Light.{Light}
 use Rattle.box_registration.specs.Registration.{fresh as unregistered, waiting as unregister}
 use Rattle.box_registration.specs.declared.Registration.{Registration}
 use Rattle.box_telling.specs.Told.{notices_of}
-use Rattle.box_telling.specs.declared.Sent.TheVariants.{Nothing}
 use Rattle.box_processes.specs.declared.Processes.{Processes}
 use Rattle.box_processes.specs.declared.Step.{Step}
 
@@ -35,4 +34,4 @@ waiting b = record { count = b.count; registration = unregister b.registration; 
 
 -- without notice or frame
 abbrev pub still : Processes → Step
-still p = record { ok = true; next = p; notices = notices_of []; first = Nothing; second = Nothing }
+still p = record { ok = true; next = p; notices = notices_of []; first = None; second = None }

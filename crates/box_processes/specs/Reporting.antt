@@ -1,11 +1,10 @@
 -- Rules R242, R243: a REPORT that the box's client asks for.
 -- Assumes nothing.
-use Rattle.std.specs.Prelude.{true, []}
+use Rattle.std.specs.Prelude.{None, Some, true, []}
 use Rattle.frame_queues.specs.declared.Sets.{Sets}
 use Rattle.frame.specs.declared.Body.TheVariants.{Report}
 use Rattle.box_registration.specs.Registration.{reported}
 use Rattle.box_telling.specs.Told.{notices_of}
-use Rattle.box_telling.specs.declared.Sent.{Sent}
 use Rattle.box_processes.specs.Parts.{with_registration}
 use Rattle.box_processes.specs.declared.Processes.{Processes}
 use Rattle.box_processes.specs.declared.Step.{Step}
@@ -16,6 +15,6 @@ reporting p sets =
       ok = true;
       next = with_registration p (reported p.registration);
       notices = notices_of [];
-      first = Sent.Is (Report sets);
-      second = Sent.Nothing;
+      first = Some (Report sets);
+      second = None;
     }

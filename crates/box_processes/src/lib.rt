@@ -10,8 +10,8 @@ ghost use Rattle.box_processes.specs.Sound.{rests_in, sound_of};
 
 use box_grants::GrantList;
 use box_light::Light;
-use box_registration::{Registration, State};
-use box_telling::{Notice, Notices, Sent};
+use box_registration::Registration;
+use box_telling::{Notice, Notices};
 use clock::Count;
 use frame::{Body, RegisterReqFlag};
 use frame_queues::Sets;
@@ -31,31 +31,28 @@ pub struct Step {
     pub ok: bool,
     pub next: Processes,
     pub notices: Notices,
-    pub first: Sent,
-    pub second: Sent,
+    pub first: Option<Body>,
+    pub second: Option<Body>,
 }
 
 // What a box that leaves by itself sends.
-pub fn farewell() -> Sent
+pub fn farewell() -> Option<Body>
     ensures { result ≡ farewell }
 {
-    let body = Body::RegisterReq {
+    Some(Body::RegisterReq {
         flag: RegisterReqFlag::Deregister,
         pending: 0,
-    };
-    Sent::Is(body)
+    })
 }
 
 impl Processes {
     pub fn fresh() -> Processes
         ensures { result ≡ fresh }
     {
-        let registration = Registration::fresh();
-        let list = GrantList::empty();
         Processes {
             count: Count(0),
-            registration,
-            list,
+            registration: Registration::fresh(),
+            list: GrantList::empty(),
             light: Light::resting(),
         }
     }
@@ -63,53 +60,38 @@ impl Processes {
     pub fn with_count(self, count: Count) -> Processes
         ensures { result ≡ with_count self count }
     {
-        let mut next = self;
-        next.count = count;
-        next
+        Processes { count, ..self }
     }
 
     pub fn with_registration(self, registration: Registration) -> Processes
         ensures { result ≡ with_registration self registration }
     {
-        let mut next = self;
-        next.registration = registration;
-        next
+        Processes {
+            registration,
+            ..self
+        }
     }
 
     pub fn with_list(self, list: GrantList) -> Processes
         ensures { result ≡ with_list self list }
     {
-        let mut next = self;
-        next.list = list;
-        next
+        Processes { list, ..self }
     }
 
     pub fn with_light(self, light: Light) -> Processes
         ensures { result ≡ with_light self light }
     {
-        let count = self.count;
-        let registration = self.registration;
-        let list = self.list;
-        Processes {
-            count,
-            registration,
-            list,
-            light,
-        }
+        Processes { light, ..self }
     }
 
     // Entering WAIT: R95.
     pub fn waiting(self) -> Processes
         ensures { result ≡ waiting self }
     {
-        let count = self.count;
-        let before = self.registration;
-        let registration = before.waiting();
-        let list = GrantList::empty();
         Processes {
-            count,
-            registration,
-            list,
+            count: self.count,
+            registration: self.registration.waiting(),
+            list: GrantList::empty(),
             light: Light::resting(),
         }
     }
@@ -118,27 +100,16 @@ impl Processes {
     fn rests(self) -> bool
         ensures { result ≡ rests_in self.registration.state self.light }
     {
-        let registration = self.registration;
-        let light = self.light;
-        let state = registration.state;
-        match state {
-            State::Wait => light.at_rest(),
-            State::Registering => true,
-            State::RegisterReq => true,
-            State::Registered => true,
-        }
+        !self.registration.is_waiting() | self.light.at_rest()
     }
 
     pub fn sound(self) -> bool
         ensures { result ≡ sound_of self }
     {
-        let registration = self.registration;
-        let list = self.list;
-        let light = self.light;
-        registration.sound()
-            & list.sound()
-            & (registration.is_registered() | (list.number == 0))
-            & light.sound(list)
+        self.registration.sound()
+            & self.list.sound()
+            & (self.registration.is_registered() | (self.list.number == 0))
+            & self.light.sound(self.list)
             & self.rests()
     }
 
@@ -146,50 +117,34 @@ impl Processes {
     fn activates(self) -> bool
         ensures { result ≡ activates self }
     {
-        let registration = self.registration;
-        let light = self.light;
-        light.at_rest() & registration.is_registered()
+        self.light.at_rest() & self.registration.is_registered()
     }
 
     // How many ticks come before one at which a timer rings or activation has a choice to make.
+    #[tactic(auto, unfolding(crate::specs::Pass::quiet_of))]
     pub fn quiet(self) -> u32
         ensures { result ≡ quiet_of self }
     {
-        let registration = self.registration;
-        let list = self.list;
-        let light = self.light;
-        let number = list.number;
-        if self.activates() & (0 < number) {
+        if self.activates() & (0 < self.list.number) {
             return 0;
         }
-        clock::least(registration.quiet(), light.quiet())
+        self.registration.quiet().min(self.light.quiet())
     }
 
     // After k such ticks, at least one: activation, which finds no grant, clears the places of the list.
     pub fn passed(self, k: u32) -> Processes
         ensures { result ≡ passed_of self k }
     {
-        let before = self.count;
-        let unpassed = self.registration;
-        let unlit = self.light;
-        let count = before.later(k);
-        let registration = unpassed.passed(k);
-        let light = unlit.passed(k);
-        if self.activates() {
-            let list = GrantList::empty();
-            return Processes {
-                count,
-                registration,
-                list,
-                light,
-            };
-        }
-        let list = self.list;
+        let list = if self.activates() {
+            GrantList::empty()
+        } else {
+            self.list
+        };
         Processes {
-            count,
-            registration,
+            count: self.count.later(k),
+            registration: self.registration.passed(k),
             list,
-            light,
+            light: self.light.passed(k),
         }
     }
 }
@@ -203,34 +158,27 @@ impl Step {
             ok: true,
             next: p,
             notices: Notices::none(),
-            first: Sent::Nothing,
-            second: Sent::Nothing,
+            first: None,
+            second: None,
         }
     }
 
     pub fn local_deregister(p: Processes) -> Step
         ensures { result ≡ local_deregister p }
     {
-        let none = Notices::none();
         Step {
-            ok: true,
-            next: p.waiting(),
-            notices: none.and(Notice::Deregistered),
+            notices: Notices::none().and(Notice::Deregistered),
             first: farewell(),
-            second: Sent::Nothing,
+            ..Step::still(p.waiting())
         }
     }
 
     pub fn reporting(p: Processes, sets: Sets) -> Step
         ensures { result ≡ reporting p sets }
     {
-        let registration = p.registration;
         Step {
-            ok: true,
-            next: p.with_registration(registration.reported()),
-            notices: Notices::none(),
-            first: Sent::Is(Body::Report(sets)),
-            second: Sent::Nothing,
+            first: Some(Body::Report(sets)),
+            ..Step::still(p.with_registration(p.registration.reported()))
         }
     }
 }

@@ -9,7 +9,7 @@ ghost use Rattle.box_registration.specs.Sound.{sound_in, sound_of};
 
 use clock::{Quanta, Timer};
 
-#[derive(Clone, Copy)]
+#[derive(Clone, Copy, PartialEq, Eq)]
 pub enum State {
     Wait,
     Registering,
@@ -61,17 +61,12 @@ impl Registration {
     fn entering(self, state: State) -> Registration
         ensures { result ≡ entering state self }
     {
-        let wait = self.wait;
-        let watchdog = self.watchdog;
-        let report = self.report;
-        let sync = self.sync;
         Registration {
             state,
-            wait: wait.stop(),
-            watchdog: watchdog.stop(),
-            report: report.stop(),
-            port: self.port,
-            sync,
+            wait: self.wait.stop(),
+            watchdog: self.watchdog.stop(),
+            report: self.report.stop(),
+            ..self
         }
     }
 
@@ -90,24 +85,20 @@ impl Registration {
     pub fn requesting(self) -> Registration
         ensures { result ≡ requesting self }
     {
-        let mut next = self.entering(State::RegisterReq);
-        let wait = self.wait;
-        let on = wait.start(Timer::WAIT);
-        next.wait = on;
-        next
+        Registration {
+            wait: self.wait.start(Timer::WAIT),
+            ..self.entering(State::RegisterReq)
+        }
     }
 
     pub fn registered(self, port: u16, sync: Quanta) -> Registration
         ensures { result ≡ registered port sync }
     {
-        let wait = self.wait;
-        let watchdog = self.watchdog;
-        let report = self.report;
         Registration {
             state: State::Registered,
-            wait: wait.stop(),
-            watchdog: watchdog.start(Timer::WATCHDOG),
-            report: report.start(Timer::PERIODIC),
+            wait: self.wait.stop(),
+            watchdog: self.watchdog.start(Timer::WATCHDOG),
+            report: self.report.start(Timer::PERIODIC),
             port,
             sync,
         }
@@ -117,71 +108,48 @@ impl Registration {
     pub fn heard(self) -> Registration
         ensures { result ≡ heard self }
     {
-        let watchdog = self.watchdog;
-        let again = watchdog.start(Timer::WATCHDOG);
-        let mut next = self;
-        next.watchdog = again;
-        next
+        let watchdog = self.watchdog.start(Timer::WATCHDOG);
+        Registration { watchdog, ..self }
     }
 
     // A REPORT that is asked for restarts the report timer, and it alone.
     pub fn reported(self) -> Registration
         ensures { result ≡ reported self }
     {
-        let report = self.report;
-        let again = report.start(Timer::PERIODIC);
-        let mut next = self;
-        next.report = again;
-        next
+        let report = self.report.start(Timer::PERIODIC);
+        Registration { report, ..self }
     }
 
     pub fn is_registered(self) -> bool
         ensures { result ≡ is_registered self.state }
     {
-        let state = self.state;
-        match state {
-            State::Wait => false,
-            State::Registering => false,
-            State::RegisterReq => false,
-            State::Registered => true,
-        }
+        self.state == State::Registered
     }
 
     pub fn is_waiting(self) -> bool
         ensures { result ≡ is_waiting self.state }
     {
-        let state = self.state;
-        match state {
-            State::Wait => true,
-            State::Registering => false,
-            State::RegisterReq => false,
-            State::Registered => false,
-        }
+        self.state == State::Wait
     }
 
     pub fn is_registering(self) -> bool
         ensures { result ≡ is_registering self.state }
     {
-        let state = self.state;
-        match state {
-            State::Wait => false,
-            State::Registering => true,
-            State::RegisterReq => false,
-            State::Registered => false,
-        }
+        self.state == State::Registering
     }
 
     // Each state runs its own timers and no other.
     fn timed(self) -> bool
         ensures { result ≡ sound_in self.state self }
     {
-        let wait = self.wait;
-        let watchdog = self.watchdog;
-        let report = self.report;
-        let state = self.state;
-        match state {
-            State::Wait => wait.off() & watchdog.off() & report.off(),
-            State::Registering => wait.off() & watchdog.off() & report.off(),
+        let Registration {
+            wait,
+            watchdog,
+            report,
+            ..
+        } = self;
+        match self.state {
+            State::Wait | State::Registering => wait.off() & watchdog.off() & report.off(),
             State::RegisterReq => wait.runs(Timer::WAIT) & watchdog.off() & report.off(),
             State::Registered => {
                 wait.off() & watchdog.runs(Timer::WATCHDOG) & report.runs(Timer::PERIODIC)
@@ -192,80 +160,74 @@ impl Registration {
     pub fn sound(self) -> bool
         ensures { result ≡ sound_of self }
     {
-        let sync = self.sync;
-        self.timed() & sync.fits()
+        self.timed() & self.sync.fits()
     }
 
+    #[tactic(auto, unfolding(crate::specs::Tick::tick_wait))]
     fn tick_wait(self) -> Ticked
         ensures { result ≡ tick_wait self }
     {
-        let wait = self.wait;
-        let t = wait.tick();
+        let t = self.wait.tick();
         if t.rang {
             return Ticked {
                 registration: self.registering(),
                 bell: Bell::Retry,
             };
         }
-        let left = t.timer;
-        let mut next = self;
-        next.wait = left;
         Ticked {
-            registration: next,
+            registration: Registration {
+                wait: t.timer,
+                ..self
+            },
             bell: Bell::Quiet,
         }
     }
 
+    #[tactic(auto, unfolding(crate::specs::Tick::tick_report))]
     fn tick_report(self) -> Ticked
         ensures { result ≡ tick_report self }
     {
-        let report = self.report;
-        let t = report.tick();
-        let left = t.timer;
-        let mut next = self;
+        let t = self.report.tick();
         if t.rang {
-            let again = left.start(Timer::PERIODIC);
-            next.report = again;
+            let report = t.timer.start(Timer::PERIODIC);
             return Ticked {
-                registration: next,
+                registration: Registration { report, ..self },
                 bell: Bell::Report,
             };
         }
-        next.report = left;
         Ticked {
-            registration: next,
+            registration: Registration {
+                report: t.timer,
+                ..self
+            },
             bell: Bell::Quiet,
         }
     }
 
+    #[tactic(auto, unfolding(crate::specs::Tick::tick_watchdog))]
     fn tick_watchdog(self) -> Ticked
         ensures { result ≡ tick_watchdog self }
     {
-        let watchdog = self.watchdog;
-        let t = watchdog.tick();
+        let t = self.watchdog.tick();
         if t.rang {
             return Ticked {
                 registration: self.waiting(),
                 bell: Bell::Lost,
             };
         }
-        let left = t.timer;
-        let mut next = self;
-        next.watchdog = left;
-        next.tick_report()
+        let left = Registration {
+            watchdog: t.timer,
+            ..self
+        };
+        left.tick_report()
     }
 
     // The registration timer, then the report timer, each judged on the state so far.
     pub fn tick(self) -> Ticked
         ensures { result ≡ tick_of self }
     {
-        let state = self.state;
-        match state {
-            State::Wait => Ticked {
-                registration: self,
-                bell: Bell::Quiet,
-            },
-            State::Registering => Ticked {
+        match self.state {
+            State::Wait | State::Registering => Ticked {
                 registration: self,
                 bell: Bell::Quiet,
             },
@@ -278,26 +240,19 @@ impl Registration {
     pub fn passed(self, k: u32) -> Registration
         ensures { result ≡ passed_of self k }
     {
-        let wait = self.wait;
-        let watchdog = self.watchdog;
-        let report = self.report;
-        let waited = wait.passed(k);
-        let watched = watchdog.passed(k);
-        let reported = report.passed(k);
-        let mut next = self;
-        next.wait = waited;
-        next.watchdog = watched;
-        next.report = reported;
-        next
+        Registration {
+            wait: self.wait.passed(k),
+            watchdog: self.watchdog.passed(k),
+            report: self.report.passed(k),
+            ..self
+        }
     }
 
     // How many ticks come before the one at which a timer rings.
     pub fn quiet(self) -> u32
         ensures { result ≡ quiet_of self }
     {
-        let wait = self.wait;
-        let watchdog = self.watchdog;
-        let report = self.report;
-        clock::least(wait.quiet(), clock::least(watchdog.quiet(), report.quiet()))
+        let later = self.watchdog.quiet().min(self.report.quiet());
+        self.wait.quiet().min(later)
     }
 }

@@ -4,7 +4,7 @@
 ghost use Rattle.std.specs.Prelude.{◌≡◌};
 ghost use Rattle.box_telling.specs.Told.{is_nothing, no_notices, added, no_frames, handed};
 
-use frame::{Body, Grant};
+use frame::Grant;
 
 #[derive(Clone, Copy)]
 pub enum Notice {
@@ -28,13 +28,6 @@ pub struct Notices {
     pub fourth: Notice,
 }
 
-// A frame on its way out, before its octets.
-#[derive(Clone, Copy)]
-pub enum Sent {
-    Nothing,
-    Is(Body),
-}
-
 // In order; octets that no frame takes are zero.
 #[derive(Clone, Copy)]
 pub struct Frames {
@@ -47,17 +40,7 @@ impl Notice {
     pub fn is_nothing(self) -> bool
         ensures { result ≡ is_nothing self }
     {
-        match self {
-            Notice::Nothing => true,
-            Notice::Window => false,
-            Notice::Registered => false,
-            Notice::Refused => false,
-            Notice::Retry => false,
-            Notice::Deregistered => false,
-            Notice::Granted(_) => false,
-            Notice::Open => false,
-            Notice::Close => false,
-        }
+        matches!(self, Notice::Nothing)
     }
 }
 
@@ -74,32 +57,29 @@ impl Notices {
     }
 
     // One notice more, behind those that stand; a fifth is not told.
+    #[tactic(auto, unfolding(crate::specs::Told::added))]
     pub fn and(self, notice: Notice) -> Notices
         ensures { result ≡ added self notice }
     {
-        let first = self.first;
-        let second = self.second;
-        let third = self.third;
-        let fourth = self.fourth;
-        if first.is_nothing() {
+        if self.first.is_nothing() {
             return Notices {
                 first: notice,
                 ..self
             };
         }
-        if second.is_nothing() {
+        if self.second.is_nothing() {
             return Notices {
                 second: notice,
                 ..self
             };
         }
-        if third.is_nothing() {
+        if self.third.is_nothing() {
             return Notices {
                 third: notice,
                 ..self
             };
         }
-        if fourth.is_nothing() {
+        if self.fourth.is_nothing() {
             return Notices {
                 fourth: notice,
                 ..self
@@ -113,34 +93,30 @@ impl Frames {
     pub fn none() -> Frames
         ensures { result ≡ no_frames }
     {
-        let blank = [0u8; 60];
         Frames {
             number: 0,
-            first: blank,
-            second: blank,
+            first: [0; 60],
+            second: [0; 60],
         }
     }
 
     // One frame more; a third is not handed out.
+    #[tactic(auto, unfolding(crate::specs::Told::handed))]
     pub fn and(self, octets: [u8; 60]) -> Frames
         ensures { result ≡ handed self octets }
     {
-        let first = self.first;
-        let second = self.second;
-        if self.number == 0 {
-            return Frames {
+        match self.number {
+            0 => Frames {
                 number: 1,
                 first: octets,
-                second,
-            };
-        }
-        if self.number == 1 {
-            return Frames {
+                ..self
+            },
+            1 => Frames {
                 number: 2,
-                first,
                 second: octets,
-            };
+                ..self
+            },
+            _ => self,
         }
-        self
     }
 }

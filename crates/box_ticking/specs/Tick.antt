@@ -1,6 +1,7 @@
 -- Rules R111, R113, R120, R133, R136 to R138: a tick of the box, stage by stage.
 -- Assumes nothing.
-use Rattle.std.specs.Prelude.{true, [], ◌∷◌}
+use Rattle.std.specs.Prelude.{Option, None, Some, true, [], ◌∷◌}
+use Rattle.frame.specs.declared.Body.{Body}
 use Rattle.clock.specs.Counts.{next_of}
 use Rattle.frame_queues.specs.Queues.{no_sets}
 use Rattle.frame.specs.declared.Body.TheVariants.{Report, RegisterReq}
@@ -13,7 +14,6 @@ use Rattle.box_registration.specs.Tick.{tick_of as registration_tick}
 use Rattle.box_registration.specs.declared.Bell.{Bell}
 use Rattle.box_telling.specs.Told.{notices_of}
 use Rattle.box_telling.specs.declared.Notice.{Notice}
-use Rattle.box_telling.specs.declared.Sent.{Sent}
 use Rattle.box_processes.specs.Leaving.{farewell}
 use Rattle.box_processes.specs.Parts.{with_count, with_registration, with_light, waiting}
 use Rattle.box_processes.specs.declared.Processes.{Processes}
@@ -21,32 +21,32 @@ use Rattle.box_processes.specs.declared.Step.{Step}
 use Rattle.box_activation.specs.Activation.{light_up}
 use Rattle.box_ticking.specs.declared.Stage.{Stage}
 
-abbrev told : Processes → Notice → Sent → Stage
+abbrev told : Processes → Notice → Option Body → Stage
 told p n s = record { ok = true; next = p; notice = n; sent = s }
 
 abbrev pub ring : Bell → Processes → Stage
-ring Bell.Quiet p = told p Notice.Nothing Sent.Nothing
+ring Bell.Quiet p = told p Notice.Nothing None
 -- R120
-ring Bell.Retry p = told p Notice.Retry Sent.Nothing
+ring Bell.Retry p = told p Notice.Retry None
 -- R137
 ring Bell.Lost p = told (waiting p) Notice.Deregistered farewell
 -- R138
-ring Bell.Report p = told p Notice.Nothing (Sent.Is (Report no_sets))
+ring Bell.Report p = told p Notice.Nothing (Some (Report no_sets))
 
 abbrev pub shine : Beam → Processes → Stage
-shine Beam.Quiet p = told p Notice.Nothing Sent.Nothing
+shine Beam.Quiet p = told p Notice.Nothing None
 -- R111, R113
 shine Beam.Window p =
     record {
       ok = is_registering p.registration.state;
       next = with_registration p (requesting p.registration);
       notice = Notice.Window;
-      sent = Sent.Is (RegisterReq RegisterReqFlag.Register room);
+      sent = Some (RegisterReq RegisterReqFlag.Register room);
     }
-shine (Beam.Start entry sync) p = told (light_up p entry sync) Notice.Nothing Sent.Nothing
+shine (Beam.Start entry sync) p = told (light_up p entry sync) Notice.Nothing None
 -- R133
-shine Beam.Opened p = told p Notice.Open Sent.Nothing
-shine Beam.Closed p = told p Notice.Close Sent.Nothing
+shine Beam.Opened p = told p Notice.Open None
+shine Beam.Closed p = told p Notice.Close None
 
 unfoldable pub timed : Processes → Stage
 timed p =

@@ -8,7 +8,7 @@ use box_grants::GrantList;
 use box_light::Beam;
 use box_processes::{Processes, Step};
 use box_registration::Bell;
-use box_telling::{Notice, Notices, Sent};
+use box_telling::{Notice, Notices};
 use frame::{Body, RegisterReqFlag};
 use frame_queues::Sets;
 
@@ -18,10 +18,10 @@ pub struct Stage {
     pub ok: bool,
     pub next: Processes,
     pub notice: Notice,
-    pub sent: Sent,
+    pub sent: Option<Body>,
 }
 
-fn told(next: Processes, notice: Notice, sent: Sent) -> Stage
+fn told(next: Processes, notice: Notice, sent: Option<Body>) -> Stage
     ensures { result ≡ record { ok = true; next = next; notice = notice; sent = sent } }
 {
     Stage {
@@ -36,10 +36,10 @@ fn ring(p: Processes, bell: Bell) -> Stage
     ensures { result ≡ ring bell p }
 {
     match bell {
-        Bell::Quiet => told(p, Notice::Nothing, Sent::Nothing),
-        Bell::Retry => told(p, Notice::Retry, Sent::Nothing),
+        Bell::Quiet => told(p, Notice::Nothing, None),
+        Bell::Retry => told(p, Notice::Retry, None),
         Bell::Lost => told(p.waiting(), Notice::Deregistered, box_processes::farewell()),
-        Bell::Report => told(p, Notice::Nothing, Sent::Is(Body::Report(Sets::NONE))),
+        Bell::Report => told(p, Notice::Nothing, Some(Body::Report(Sets::NONE))),
     }
 }
 
@@ -48,26 +48,22 @@ fn shine(p: Processes, beam: Beam) -> Stage
     ensures { result ≡ shine beam p }
 {
     match beam {
-        Beam::Quiet => told(p, Notice::Nothing, Sent::Nothing),
-        Beam::Window => {
-            let registration = p.registration;
-            let request = Body::RegisterReq {
+        Beam::Quiet => told(p, Notice::Nothing, None),
+        Beam::Window => Stage {
+            ok: p.registration.is_registering(),
+            next: p.with_registration(p.registration.requesting()),
+            notice: Notice::Window,
+            sent: Some(Body::RegisterReq {
                 flag: RegisterReqFlag::Register,
                 pending: GrantList::PENDING,
-            };
-            Stage {
-                ok: registration.is_registering(),
-                next: p.with_registration(registration.requesting()),
-                notice: Notice::Window,
-                sent: Sent::Is(request),
-            }
-        }
+            }),
+        },
         Beam::Start(entry, sync) => {
             let lit = box_activation::light_up(p, entry, sync);
-            told(lit, Notice::Nothing, Sent::Nothing)
+            told(lit, Notice::Nothing, None)
         }
-        Beam::Opened => told(p, Notice::Open, Sent::Nothing),
-        Beam::Closed => told(p, Notice::Close, Sent::Nothing),
+        Beam::Opened => told(p, Notice::Open, None),
+        Beam::Closed => told(p, Notice::Close, None),
     }
 }
 
@@ -75,41 +71,28 @@ fn shine(p: Processes, beam: Beam) -> Stage
 fn timed(p: Processes) -> Stage
     ensures { result ≡ timed p }
 {
-    let registration = p.registration;
-    let now = p.count;
-    let t = registration.tick();
-    let after = t.registration;
-    let bell = t.bell;
-    ring(p.with_count(now.next()).with_registration(after), bell)
+    let t = p.registration.tick();
+    let next = p.with_count(p.count.next());
+    ring(next.with_registration(t.registration), t.bell)
 }
 
 fn transmitted(p: Processes) -> Stage
     ensures { result ≡ transmitted p }
 {
-    let light = p.light;
-    let t = light.tick();
-    let after = t.light;
-    let beam = t.beam;
-    shine(p.with_light(after), beam)
+    let t = p.light.tick();
+    shine(p.with_light(t.light), t.beam)
 }
 
 pub fn tick(p: Processes) -> Step
     ensures { result ≡ tick_of p }
 {
     let a = timed(p);
-    let so_far = a.next;
-    let rung = a.notice;
-    let first = a.sent;
-    let b = transmitted(so_far);
-    let next = b.next;
-    let shone = b.notice;
-    let second = b.sent;
-    let none = Notices::none();
+    let b = transmitted(a.next);
     Step {
         ok: b.ok,
-        next,
-        notices: none.and(rung).and(shone),
-        first,
-        second,
+        next: b.next,
+        notices: Notices::none().and(a.notice).and(b.notice),
+        first: a.sent,
+        second: b.sent,
     }
 }

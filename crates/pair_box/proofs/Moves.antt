@@ -1,25 +1,25 @@
 -- What a step of the box must leave of the registration, and what it may send, for the pair's laws.
 -- Assumes nothing.
+use Rattle.std.proofs.Common.{Option, None, Some}
 use Prim.Native.Nat.{ℕ, ◌+◌, ◌≤◌}
 use mathlib.Core.Path.{◌≡◌, refl, sym, ap, subst, ◌∙◌}
 use mathlib.Core.Bool.{Bool, false, false≢true}
 use native.Mathlib.Omega.{arith}
+use Rattle.frame.specs.declared.Body.{Body}
 use Rattle.box_registration.specs.Registration.{is_registered}
 use Rattle.box_registration.specs.declared.Registration.{Registration}
 use Rattle.box_registration.specs.declared.State.{State}
 use Rattle.box_registration.specs.declared.State.TheVariants.{Wait, Registering, RegisterReq, Registered}
-use Rattle.box_telling.specs.declared.Sent.{Sent}
-use Rattle.box_telling.specs.declared.Sent.TheVariants.{Nothing, Is}
 use Rattle.box_processes.specs.declared.Step.{Step}
 use Rattle.pair_wire.specs.Restarts.{restarts_head}
 
 -- nothing that restarts a watchdog of the head
-abbrev pub Mute : Sent → Type 0
-Mute Nothing = Unit {0}
-Mute (Is body) = restarts_head body ≡ false
+abbrev pub Mute : Option Body → Type 0
+Mute None = Unit {0}
+Mute (Some body) = restarts_head body ≡ false
 
 -- from r to t, with what is sent first and second; loss and kept as in the laws
-pub record Moves (loss : ℕ) (kept : Bool) (r t : Registration) (first second : Sent) : Type 0 where
+pub record Moves (loss : ℕ) (kept : Bool) (r t : Registration) (first second : Option Body) : Type 0 where
   pub dog : kept ≡ false → t.state ≡ Registered → (r.state ≡ Registered) × (loss + t.watchdog.left ≤ r.watchdog.left)
   pub wait : r.state ≡ RegisterReq → t.state ≡ RegisterReq → loss + t.wait.left ≤ r.wait.left
   pub mute : ¬ (r.state ≡ Registered) → ¬ (t.state ≡ Registered) → Mute first × Mute second
@@ -40,7 +40,7 @@ idle-unregistered Registering i = refl
 idle-unregistered RegisterReq i = absurd i
 idle-unregistered Registered i = absurd i
 
-module _ {kept : Bool} {r t : Registration} {first second : Sent} where
+module _ {kept : Bool} {r t : Registration} {first second : Option Body} where
   -- a step that ends in one of them
   pub gone : {loss : ℕ} → Idle t.state → (¬ (r.state ≡ Registered) → Mute first × Mute second)
       → Moves loss kept r t first second

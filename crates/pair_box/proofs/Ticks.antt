@@ -1,5 +1,6 @@
 -- What a tick does to the registration of a steady box, in each state.
 -- Assumes nothing.
+use Rattle.std.proofs.Common.{None}
 use Prim.Native.Nat.{◌-◌, ◌≤◌, ◌<◌}
 use mathlib.Core.Path.{◌≡◌, refl, sym, ap, subst, ◌∙◌}
 use mathlib.Core.Bool.{false, false≢true}
@@ -12,7 +13,6 @@ use Rattle.box_registration.specs.Registration.{is_registered, is_registering}
 use Rattle.box_registration.specs.declared.State.{State}
 use Rattle.box_registration.specs.declared.State.TheVariants.{Wait, Registering, RegisterReq, Registered}
 use Rattle.box_registration.specs.declared.Registration.{Registration}
-use Rattle.box_telling.specs.declared.Sent.TheVariants.{Nothing}
 use Rattle.box_processes.specs.declared.Processes.{Processes}
 use Rattle.box_ticking.specs.Tick.{timed, tick_of}
 use Rattle.box_laws.specs.Awaited.{timed-calm}
@@ -28,7 +28,7 @@ module _ (p : Processes) (s : Steady p) where
 
   -- the second stage leaves what the first did, where no window can open
   settled : is_registering (timed p).next.registration.state ≡ false
-      → ((tick_of p).next.registration ≡ (timed p).next.registration) × ((tick_of p).second ≡ Nothing)
+      → ((tick_of p).next.registration ≡ (timed p).next.registration) × ((tick_of p).second ≡ None)
   unfolding tick_of
   settled e = shut-still (timed p).next (shut-of (timed p).next e (timed-calm p s.awaited))
 
@@ -43,8 +43,8 @@ module _ (p : Processes) (s : Steady p) where
   pub asking-ticks : before.state ≡ RegisterReq → 1 < before.wait.left
       → ((tick_of p).next.registration.state ≡ RegisterReq)
       × ((tick_of p).next.registration.wait.left ≡ before.wait.left - 1)
-      × ((tick_of p).first ≡ Nothing)
-      × ((tick_of p).second ≡ Nothing)
+      × ((tick_of p).first ≡ None)
+      × ((tick_of p).second ≡ None)
   unfolding tick_of
   asking-ticks e h =
       let g = ticked-falls before.wait h in

@@ -1,5 +1,6 @@
 -- The first stage of a tick: what the timers of the registration make of it, in each state.
 -- Assumes nothing.
+use Rattle.std.proofs.Common.{None}
 use mathlib.Core.Path.{◌≡◌, refl}
 use mathlib.Core.Bool.{true, false}
 use Rattle.laws.specs.Cases.{either}
@@ -9,7 +10,6 @@ use Rattle.box_registration.specs.Tick.{tick_wait, tick_report, tick_watchdog}
 use Rattle.box_registration.specs.declared.State.{State}
 use Rattle.box_registration.specs.declared.State.TheVariants.{Wait, Registering, RegisterReq, Registered}
 use Rattle.box_registration.specs.declared.Ticked.{Ticked}
-use Rattle.box_telling.specs.declared.Sent.TheVariants.{Nothing}
 use Rattle.box_processes.specs.Parts.{with_count, with_registration}
 use Rattle.box_processes.specs.declared.Processes.{Processes}
 use Rattle.box_ticking.specs.Tick.{ring, timed}
@@ -18,7 +18,7 @@ use Rattle.pair_box.proofs.Moves.{Idle}
 
 -- a stage that leaves the registration as it was, and sends nothing
 abbrev pub Still : Processes → Stage → Type 0
-Still p x = (x.next.registration ≡ p.registration) × (x.sent ≡ Nothing)
+Still p x = (x.next.registration ≡ p.registration) × (x.sent ≡ None)
 
 module _ (p : Processes) where
   still-in : (t : State) → p.registration.state ≡ t → Idle t → Still p (timed p)
@@ -35,14 +35,14 @@ module _ (p : Processes) where
   -- REGISTER_REQ
   module _ (e : p.registration.state ≡ RegisterReq) where
     pub retry-timed : (ticked p.registration.wait).rang ≡ true
-        → ((timed p).next.registration.state ≡ Registering) × ((timed p).sent ≡ Nothing) × ((timed p).next.light ≡ p.light)
+        → ((timed p).next.registration.state ≡ Registering) × ((timed p).sent ≡ None) × ((timed p).next.light ≡ p.light)
     unfolding timed tick_wait
     retry-timed r = rw (e, r) (refl, refl, refl)
 
     pub asking-timed : (ticked p.registration.wait).rang ≡ false
         → ((timed p).next.registration.state ≡ RegisterReq)
         × ((timed p).next.registration.wait ≡ (ticked p.registration.wait).timer)
-        × ((timed p).sent ≡ Nothing)
+        × ((timed p).sent ≡ None)
     unfolding timed tick_wait
     asking-timed r = rw (e, r) (refl, refl, refl)
 

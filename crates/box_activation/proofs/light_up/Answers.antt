@@ -9,6 +9,6 @@ returns c =
     rw (
       c.with_light.ensures,
       c.with_list.ensures,
-      c.laser_on-timer.ensures,
-      c.without-left.ensures,
+      c.laser_on.ensures,
+      c.without.ensures,
     )

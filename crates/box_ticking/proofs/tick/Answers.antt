@@ -9,7 +9,7 @@ returns c =
     rw (
       c.and-2.ensures,
       c.and.ensures,
-      c.none-none.ensures,
+      c.none.ensures,
       c.transmitted-b.ensures,
       c.timed-a.ensures,
     )

@@ -9,7 +9,7 @@ returns c =
     rw (
       c.ring.ensures,
       c.with_registration.ensures,
-      c.with_count.ensures,
+      c.with_count-next.ensures,
       c.next.ensures,
       c.tick-t.ensures,
     )

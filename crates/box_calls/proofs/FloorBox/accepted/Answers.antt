@@ -10,8 +10,8 @@ unfolding accepted
 returns c =
     rw (
       to_z-of_z w64 c.args.drift c.ranges.drift,
-      c.activate-processes.ensures,
+      c.activate.ensures,
       c.frame-frames.ensures,
-      c.frame.ensures,
+      c.frame-first.ensures,
       c.none.ensures,
     )

@@ -7,4 +7,4 @@ use Rattle.box_calls.proofs.FloorBox.heard.Goals as goal
 pub returns : goal.returns
 unfolding heard_of
 returns c =
-    rw (c.accepted.ensures, c.hear-step.ensures, c.with_count.ensures, c.drift-drift.ensures, read_back)
+    rw (c.accepted.ensures, c.hear.ensures, c.with_count-timed.ensures, c.eq-own.ensures, c.drift-drift.ensures, read_back)

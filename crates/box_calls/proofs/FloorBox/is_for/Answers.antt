@@ -5,4 +5,4 @@ use Rattle.box_calls.proofs.FloorBox.is_for.Goals as goal
 
 pub returns : goal.returns
 unfolding is_for
-returns c = rw c.is_discovery.ensures
+returns c = rw (c.eq.ensures, c.is_discovery.ensures, c.eq-2.ensures)

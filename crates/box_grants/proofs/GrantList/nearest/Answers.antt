@@ -1,34 +1,22 @@
 -- `box_grants::GrantList::nearest` meets its promise.
 -- Assumes nothing.
-use Prim.Native.Nat.{◌≤◌}
-use mathlib.Core.Path.{◌≡◌, refl, ◌∙◌}
-use lib.ListN.{length, get_or}
-use native.Mathlib.Omega.{arith}
-use Rattle.laws.specs.Walk.{walk-again, walk-done}
-use Rattle.clock.specs.Spans.{none}
+use Rattle.std.proofs.Common.{◌≡◌, rules, ◌∙◌, get_or, List, [], ◌∷◌, ◌++◌, refl, sym, ap}
+use Rattle.std.specs.List.{fold}
+use Rattle.std.proofs.lemmas.Fn.{fold_over, slice_gives, fronts}
+use Rattle.std.proofs.lemmas.List.Sums.{fold_push}
+use Rattle.clock.specs.Spans.{none, nearer_of}
+use Rattle.clock.specs.declared.Span.{Span}
 use Rattle.box_grants.specs.Listed.{list_of}
-use Rattle.box_grants.specs.Laws.{nearest-walk}
+use Rattle.box_grants.specs.Laws.{nearest-fold}
 use Rattle.box_grants.proofs.GrantList.nearest.Goals as goal
-use Rattle.box_grants.proofs.GrantList.nearest.Goals.{After-held-n}
-
--- what is held stands in the array
-room : (c : After-held-n) → c.held-n.result ≤ length c.args.self.entries
-room c =
-    let sixteen : length c.args.self.entries ≡ 16 = c.well_formed.0.1.1.0.1.0.1 in
-    omega arith
-
-pub loop-i-init : goal.loop-i-init
-loop-i-init c = (omega arith, omega (arith, c.held-n.ensures), refl)
-
-pub loop-i-preserved : goal.loop-i-preserved
-loop-i-preserved c = (
-  omega arith,
-  omega arith,
-  walk-again _ _ _ none _ _ _ _ c.loop-i-test.true (room c.before.before.before.before.before) c.nearer-best.ensures c.loop-i.invariant.2,
-)
 
 pub returns : goal.returns
 returns c =
-    let a = c.args in
-    walk-done _ _ _ _ _ _ c.loop-i-test.false c.loop-i.invariant.2
-    ∙ rw c.held-n.ensures (nearest-walk a.now.0 (get_or a.self.entries 0 none) (list_of a.self))
+    let now = c.args.now.0 in
+    let first = get_or c.args.self.entries 0 none in
+    let h : c.fold.result ≡ fold (nearer_of now) first c.iter.result.rest.now =
+    fold_over fronts (λ y. y.now) _ (λ (ys : List Span) (best : Span). best ≡ fold (nearer_of now) first ys) _
+    (λ ys a x b f' j k.
+    let more : fold (nearer_of now) first (ys ++ (x.now ∷ [])) ≡ nearer_of now a x.now = fold_push (nearer_of now) first ys x.now ∙ ap (λ (e : Span). nearer_of now e x.now) (sym j) in
+    search rules) _ _ _ _ (slice_gives c.iter.result) refl c.fold.ensures.ran in
+    h ∙ ap (fold (nearer_of now) first) c.iter.ensures.rest ∙ rw c.held.ensures (nearest-fold now first (list_of c.args.self))

@@ -1,37 +1,23 @@
 -- `box_grants::GrantList::sound` meets its promise.
 -- Assumes nothing.
-use Prim.Native.Nat.{◌≤◌}
-use mathlib.Core.Path.{◌≡◌, refl, ◌∙◌}
+use Rattle.std.proofs.Common.{rules, ◌∙◌}
+use Rattle.std.proofs.lemmas.Iterator.{YieldsList-from_slice}
+use Rattle.std.proofs.lemmas.Iterator.Search.{all_from_yields_List}
+use borrow.Author.Tests.{tests, le-leb, lt-leb}
 use lib.Dec.{leb}
-use lib.ListN.{length}
-use native.Mathlib.Omega.{arith}
-use Rattle.laws.specs.Walk.{walk-again, walk-done}
-use Rattle.clock.specs.Spans.{none}
+use Rattle.clock.specs.declared.Span.{Span}
 use Rattle.box_grants.specs.Listed.{list_of}
-use Rattle.box_grants.specs.Laws.{range-walk}
+use Rattle.box_grants.specs.Laws.{range-all}
 use Rattle.box_grants.specs.Sound.{sound_of}
 use Rattle.box_grants.proofs.GrantList.sound.Goals as goal
-use Rattle.box_grants.proofs.GrantList.sound.Goals.{After-held-n}
 
--- what is held stands in the array
-room : (c : After-held-n) → c.held-n.result ≤ length c.args.self.entries
-room c =
-    let sixteen : length c.args.self.entries ≡ 16 = c.well_formed.0.1.1.0.1.0.1 in
-    omega arith
-
-pub loop-i-init : goal.loop-i-init
-loop-i-init c = (omega arith, omega (arith, c.held-n.ensures), refl)
-
-pub loop-i-preserved : goal.loop-i-preserved
-loop-i-preserved c = (
-  omega arith,
-  omega arith,
-  walk-again _ _ _ none _ _ _ _ c.loop-i-test.true (room c.before.before.before.before.before.before) (rw c.fits-fits.ensures) c.loop-i.invariant.2,
-)
-
-pub returns : goal.returns
+pub returns-then-self-le-ROOM : goal.returns-then-self-le-ROOM
 unfolding sound_of
-returns c =
-    let s = c.args.self in
-    walk-done _ _ _ _ _ _ c.loop-i-test.false c.loop-i.invariant.2
-    ∙ rw c.held-n.ensures (range-walk (leb s.number 16) (list_of s))
+returns-then-self-le-ROOM c =
+    rw (le-leb _ _ c.if-self-le-ROOM.true)
+    (all_from_yields_List (λ (e : Span). leb e.length.0 65535) _ _ _ c.all.ensures.ran (YieldsList-from_slice (list_of c.args.self) cc) (λ x b q k. search (rules, tests))
+    ∙ range-all (list_of c.args.self))
+
+pub returns-else-self-le-ROOM : goal.returns-else-self-le-ROOM
+unfolding sound_of
+returns-else-self-le-ROOM c = rw (lt-leb _ _ c.if-self-le-ROOM.false)

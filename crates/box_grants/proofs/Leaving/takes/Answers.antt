@@ -6,4 +6,4 @@ pub returns-in-Past : goal.returns-in-Past
 returns-in-Past c = rw (c.is_past.ensures, c.in-Past.is)
 
 pub returns-in-Equal : goal.returns-in-Equal
-returns-in-Equal c = rw (c.same.ensures, c.in-Equal.is)
+returns-in-Equal c = rw (c.eq.ensures, c.in-Equal.is)

@@ -7,10 +7,10 @@ pub returns-then-self : goal.returns-then-self
 unfolding sifted
 returns-then-self c = rw (c.push.ensures, c.if-self.true)
 
-pub returns-then-same : goal.returns-then-same
+pub returns-then-eq : goal.returns-then-eq
 unfolding sifted
-returns-then-same c = rw (c.if-self.false, ← c.same.ensures, c.if-same.true)
+returns-then-eq c = rw (c.if-self.false, ← c.eq.ensures, c.if-eq.true)
 
 pub returns : goal.returns
 unfolding sifted
-returns c = rw (c.push-2.ensures, c.if-self.false, ← c.same.ensures, c.if-same.false)
+returns c = rw (c.push-2.ensures, c.if-self.false, ← c.eq.ensures, c.if-eq.false)

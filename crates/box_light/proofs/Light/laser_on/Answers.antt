@@ -5,4 +5,4 @@ use Rattle.box_light.proofs.Light.laser_on.Goals as goal
 
 pub returns : goal.returns
 unfolding laser_on_for
-returns c = rw (c.start.ensures, c.wrapping_add_u32-both.ensures.value)
+returns c = rw c.start.ensures

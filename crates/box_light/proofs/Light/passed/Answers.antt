@@ -5,4 +5,4 @@ use Rattle.box_light.proofs.Light.passed.Goals as goal
 
 pub returns : goal.returns
 unfolding passed_of
-returns c = rw c.passed-timer.ensures
+returns c = rw c.passed.ensures

@@ -5,4 +5,4 @@ use Rattle.box_light.proofs.Light.served.Goals as goal
 
 pub returns : goal.returns
 unfolding served
-returns c = rw (c.fits.ensures, c.needed.ensures)
+returns c = rw (c.fits.ensures, c.from.ensures, c.needed.ensures)

@@ -5,4 +5,4 @@ use Rattle.box_light.proofs.Light.wait_fits.Goals as goal
 
 pub returns : goal.returns
 unfolding wait_fits
-returns c = rw c.needed.ensures
+returns c = rw (c.from-2.ensures, c.from.ensures, c.needed.ensures)

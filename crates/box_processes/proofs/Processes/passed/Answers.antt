@@ -2,11 +2,12 @@
 -- Assumes nothing.
 use Rattle.box_processes.specs.Pass.{passed_of}
 use Rattle.box_processes.proofs.Processes.passed.Goals as goal
-
-pub returns-then-activates : goal.returns-then-activates
-unfolding passed_of
-returns-then-activates c = rw (c.empty-list.ensures, ← c.activates.ensures, c.if-activates.true, c.passed-light.ensures, c.passed-registration.ensures, c.later-count.ensures)
+use Rattle.box_processes.proofs.Processes.passed.Goals.{then-activates, else-activates}
 
 pub returns : goal.returns
 unfolding passed_of
-returns c = rw (← c.activates.ensures, c.if-activates.false, c.passed-light.ensures, c.passed-registration.ensures, c.later-count.ensures)
+returns c =
+    elim c.if-activates.branch [
+      | then-activates w ↦ rw (w.list-is, w.empty-list.ensures, ← c.activates.ensures, w.if-activates.true, c.passed-2.ensures, c.passed.ensures, c.later.ensures)
+      | else-activates w ↦ rw (w.list-is, ← c.activates.ensures, w.if-activates.false, c.passed-2.ensures, c.passed.ensures, c.later.ensures)
+    ]

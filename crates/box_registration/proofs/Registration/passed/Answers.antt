@@ -5,4 +5,4 @@ use Rattle.box_registration.proofs.Registration.passed.Goals as goal
 
 pub returns : goal.returns
 unfolding passed_of
-returns c = rw (c.passed-reported.ensures, c.passed-watched.ensures, c.passed-waited.ensures)
+returns c = rw (c.passed-3.ensures, c.passed-2.ensures, c.passed.ensures)

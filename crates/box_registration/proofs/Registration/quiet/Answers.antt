@@ -5,4 +5,4 @@ use Rattle.box_registration.proofs.Registration.quiet.Goals as goal
 
 pub returns : goal.returns
 unfolding quiet_of
-returns c = rw (c.least-2.ensures, c.least.ensures, c.quiet-3.ensures, c.quiet-2.ensures, c.quiet.ensures)
+returns c = rw (c.min.ensures, c.min-later.ensures, c.quiet-3.ensures, c.quiet-2.ensures, c.quiet.ensures)
