@@ -8,7 +8,7 @@ ghost use Rattle.head_calls.specs.Serve.{sender_of, answer_of, served, serve_of}
 
 use frame::{Address, Reply};
 use head_judging::Call;
-use head_links::{Link, Sent};
+use head_links::Link;
 use head_plans::{Notice, Plan};
 use head_state::Head;
 use head_table::{Event, Sender};
@@ -27,88 +27,69 @@ pub struct Answer {
 fn sender_of(plan: Plan) -> Sender
     ensures { result ≡ sender_of plan }
 {
-    let head = plan.head;
-    let source = head.address;
-    let timestamp = head.count;
-    Sender { source, timestamp }
-}
-
-fn lead_of(plan: Plan) -> Sent
-    ensures { result ≡ plan.lead }
-{
-    plan.lead
-}
-
-fn event_of(plan: Plan) -> Event
-    ensures { result ≡ plan.event }
-{
-    plan.event
+    Sender {
+        source: plan.head.address,
+        timestamp: plan.head.count,
+    }
 }
 
 fn answer_of(plan: Plan, frames: usize) -> Answer
     ensures { result ≡ answer_of plan frames }
 {
-    let reply = plan.reply;
-    let next = plan.head;
-    let notice = plan.notice;
     Answer {
-        reply,
-        next,
+        reply: plan.reply,
+        next: plan.head,
         frames,
-        notice,
+        notice: plan.notice,
         made: plan.made,
     }
 }
 
 // Every call of a head that stands: judge, then the head's own frame, then the links. A refusal goes the same way with nothing to do.
+#[tactic(auto, unfolding(crate::specs::Serve::plan_of, crate::specs::Serve::sent_of, crate::specs::Serve::done_of, crate::specs::Serve::serve_of))]
 pub fn serve(head: Head, links: &mut [Link], call: Call, out: &mut [u8]) -> Answer
     ensures { served result links.new out.new ≡ serve_of head links.old call out.old }
 {
     let f = head_survey::survey(links, head_judging::look(call));
     let p = head_judging::judge(head, f, links.len(), out.len(), call);
-    let n = head_table::note(out, 0, sender_of(p), lead_of(p));
-    let m = head_table::drive(links, event_of(p), sender_of(p), out, n);
+    let n = head_table::note(out, 0, sender_of(p), p.lead);
+    let m = head_table::drive(links, p.event, sender_of(p), out, n);
     answer_of(p, m)
 }
 
+#[tactic(auto, unfolding(crate::specs::Fresh::begun_of))]
 fn begin(address: Address, links: usize) -> Answer
     ensures { result ≡ begun_of address links }
 {
-    let nobody = Address(0);
-    let notice = Notice::quiet();
+    let refused = Answer {
+        reply: Reply::Unsound,
+        next: Head::begun(Address(0)),
+        frames: 0,
+        notice: Notice::quiet(),
+        made: 0,
+    };
     if !head_survey::is_few(links) {
-        return Answer {
-            reply: Reply::Unsound,
-            next: Head::begun(nobody),
-            frames: 0,
-            notice,
-            made: 0,
-        };
+        return refused;
     }
     if !frame_range::individual(address) {
         return Answer {
             reply: Reply::Range,
-            next: Head::begun(nobody),
-            frames: 0,
-            notice,
-            made: 0,
+            ..refused
         };
     }
     Answer {
         reply: Reply::Done,
         next: Head::begun(address),
-        frames: 0,
-        notice,
-        made: 0,
+        ..refused
     }
 }
 
 // An accepted head clears the links, a refused one offers them nothing.
+#[tactic(auto, unfolding(crate::specs::Clearing::clearing))]
 fn clearing(answer: Answer) -> Event
     ensures { result ≡ clearing (is_done answer.reply) }
 {
-    let reply = answer.reply;
-    if reply.number() == 0 {
+    if matches!(answer.reply, Reply::Done) {
         return Event::Clear;
     }
     Event::Nothing

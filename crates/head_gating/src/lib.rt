@@ -1,8 +1,8 @@
 // What a gate request asks for: a number of grants, the first four of them, and force bits as an octet.
 #![tactic(auto)]
 
-ghost use Rattle.std.specs.Prelude.{◌≡◌};
-ghost use Rattle.head_gating.specs.Asked.{grant_of, first, second, third, fourth, grants_of, allowed, fits};
+ghost use Rattle.std.specs.Prelude.{◌≡◌, ◌≤◌};
+ghost use Rattle.head_gating.specs.Asked.{bit_of, grant_of, grants_of, allowed, fits};
 
 use clock::Span;
 use frame::{Grant, Grants};
@@ -18,94 +18,59 @@ pub struct Asked {
     pub force: u8,
 }
 
-fn granted(span: Span, force: bool) -> Grant
-    ensures { result ≡ grant_of span force }
-{
-    let start = span.start;
-    let length = span.length;
-    Grant {
-        start,
-        length,
-        force,
-    }
-}
-
 impl Asked {
     // A GATE carries so many.
     pub const MOST: usize = 4;
 
     // The force bits that this number of grants has are below this.
+    #[tactic(auto, unfolding(crate::specs::Asked::allowed))]
     fn allowed(self) -> u8
         ensures { result ≡ allowed self.number }
     {
-        let number = self.number;
-        if number == 0 {
-            return 1;
+        match self.number {
+            0 => 1,
+            1 => 2,
+            2 => 4,
+            3 => 8,
+            _ => 16,
         }
-        if number == 1 {
-            return 2;
-        }
-        if number == 2 {
-            return 4;
-        }
-        if number == 3 {
-            return 8;
-        }
-        16
     }
 
-    fn first_grant(self) -> Grant
-        ensures { result ≡ first self }
+    // A grant with the force bit of that worth.
+    fn granted(self, span: Span, worth: u8) -> Grant
+        requires { 1 ≤ worth }
+        ensures { result ≡ grant_of span (bit_of self.force worth) }
     {
-        granted(self.first, self.force % 2 == 1)
-    }
-
-    fn second_grant(self) -> Grant
-        ensures { result ≡ second self }
-    {
-        granted(self.second, self.force / 2 % 2 == 1)
-    }
-
-    fn third_grant(self) -> Grant
-        ensures { result ≡ third self }
-    {
-        granted(self.third, self.force / 4 % 2 == 1)
-    }
-
-    fn fourth_grant(self) -> Grant
-        ensures { result ≡ fourth self }
-    {
-        granted(self.fourth, self.force / 8 % 2 == 1)
+        Grant {
+            start: span.start,
+            length: span.length,
+            force: self.force / worth % 2 == 1,
+        }
     }
 
     // As many of them as are asked for, each with its force bit.
+    #[tactic(auto, unfolding(crate::specs::Asked::grants_of))]
     pub fn grants(self) -> Grants
         ensures { result ≡ grants_of self }
     {
-        let number = self.number;
-        if number == 0 {
-            return Grants::None;
+        let a = self.granted(self.first, 1);
+        let b = self.granted(self.second, 2);
+        let c = self.granted(self.third, 4);
+        let d = self.granted(self.fourth, 8);
+        match self.number {
+            0 => Grants::None,
+            1 => Grants::One(a),
+            2 => Grants::Two(a, b),
+            3 => Grants::Three(a, b, c),
+            _ => Grants::Four(a, b, c, d),
         }
-        let a = self.first_grant();
-        if number == 1 {
-            return Grants::One(a);
-        }
-        let b = self.second_grant();
-        if number == 2 {
-            return Grants::Two(a, b);
-        }
-        let c = self.third_grant();
-        if number == 3 {
-            return Grants::Three(a, b, c);
-        }
-        let d = self.fourth_grant();
-        Grants::Four(a, b, c, d)
     }
 
     // No force bit for an absent grant, and every length in its sixteen bits.
+    #[tactic(auto, unfolding(crate::specs::Asked::fits))]
     pub fn fits(self) -> bool
         ensures { result ≡ fits self }
     {
-        (self.force < self.allowed()) & frame_range::grants(self.grants())
+        self.force < self.allowed() && frame_range::grants(self.grants())
     }
 }

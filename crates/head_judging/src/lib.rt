@@ -54,10 +54,9 @@ pub enum Call {
 fn look_at(link: usize) -> Look
     ensures { result ≡ look_for link }
 {
-    let nobody = Address(0);
     Look {
         link,
-        address: nobody,
+        address: Address(0),
     }
 }
 
@@ -66,32 +65,17 @@ pub fn look(call: Call) -> Look
     ensures { result ≡ look_of call }
 {
     match call {
-        Call::Open {
-            start: _,
-            length: _,
-            sync: _,
-            window: _,
-        } => look_at(0),
-        Call::Admit {
-            address,
-            pending: _,
-            sync: _,
-        } => Look { link: 0, address },
-        Call::Reject {
-            address: _,
-            pending: _,
-            sync: _,
-        } => look_at(0),
-        Call::Reregister { link, sync: _ } => look_at(link),
-        Call::Deregister { link } => look_at(link),
-        Call::Gate { link, asked: _ } => look_at(link),
-        Call::Hear { link, message: _ } => look_at(link),
-        Call::Tick => look_at(0),
-        Call::Advance(_) => look_at(0),
+        Call::Admit { address, .. } => Look { link: 0, address },
+        Call::Reregister { link, .. }
+        | Call::Deregister { link }
+        | Call::Gate { link, .. }
+        | Call::Hear { link, .. } => look_at(link),
+        Call::Open { .. } | Call::Reject { .. } | Call::Tick | Call::Advance(_) => look_at(0),
     }
 }
 
 // The ticks at which no link rings are passed, and one more is made.
+#[tactic(auto, unfolding(crate::specs::Judge::advance_of))]
 fn advance(head: Head, quiet: u32, n: u64) -> Plan
     ensures { result ≡ advance_of head quiet n }
 {
@@ -99,7 +83,7 @@ fn advance(head: Head, quiet: u32, n: u64) -> Plan
         return Plan::refused(head, Reply::Grant);
     }
     let k = clock::passing(quiet, n);
-    Plan::leaping(head.after(k).tick(), Event::Leap(k), k as u64 + 1)
+    Plan::leaping(head.after(k).tick(), Event::Leap(k), u64::from(k) + 1)
 }
 
 fn decide(head: Head, f: Facts, call: Call) -> Plan
@@ -133,19 +117,22 @@ fn decide(head: Head, f: Facts, call: Call) -> Plan
 }
 
 // A frame for every link has room in so many octets.
+#[tactic(auto, unfolding(crate::specs::Judge::has_room))]
 fn has_room(links: usize, octets: usize) -> bool
     ensures { result ≡ has_room links octets }
 {
     links <= octets / Message::OCTETS
 }
 
+#[tactic(auto, unfolding(crate::specs::Judge::is_sound))]
 fn is_sound(head: Head, f: Facts) -> bool
     ensures { result ≡ is_sound head f }
 {
-    head.sound() & f.sound
+    head.sound() && f.sound
 }
 
 // So many links are lent, and so many octets.
+#[tactic(auto, unfolding(crate::specs::Judge::judge_of))]
 pub fn judge(head: Head, f: Facts, links: usize, octets: usize, call: Call) -> Plan
     ensures { result ≡ judge_of head f links octets call }
 {

@@ -1,5 +1,6 @@
 -- The periodic GATE of one link, tick by tick, and of a link in the table.
 -- Assumes nothing.
+use Rattle.std.proofs.Common.{None}
 use Prim.Native.Nat.{ℕ, zero, suc, ◌+◌, ◌-◌, ◌<◌}
 use mathlib.Core.Path.{◌≡◌, refl, sym, ap, ◌∙◌}
 use mathlib.Core.Bool.{true, false}
@@ -18,7 +19,6 @@ use Rattle.head_state.specs.Head.{tick_of as head_tick}
 use Rattle.head_links.specs.Steps.{with_watchdog, with_periodic, still, gated}
 use Rattle.head_links.specs.Tick.{tick_periodic, tick_watchdog, tick_in, tick_of}
 use Rattle.head_links.specs.declared.Link.{Link}
-use Rattle.head_links.specs.declared.Sent.TheVariants.{Nothing}
 use Rattle.head_links.specs.declared.State.{State}
 use Rattle.head_links.specs.declared.Stepped.{Stepped}
 use Rattle.head_survey.specs.Facts.{link_from}
@@ -91,8 +91,8 @@ gate-comes (suc n) l port g =
       again = λ w. rw (on (suc n)) (c.again (omega arith));
     }
   where
-    silent-from : (tick_of l port).sent ≡ Nothing → ((k : ℕ) → ticks_on (suc k) l port ≡ ticks_on k (passed l) port) → Comes n (passed l) port
-        → (k : ℕ) → k < suc n → (tick_of (ticks_on k l port) port).sent ≡ Nothing
+    silent-from : (tick_of l port).sent ≡ None → ((k : ℕ) → ticks_on (suc k) l port ≡ ticks_on k (passed l) port) → Comes n (passed l) port
+        → (k : ℕ) → k < suc n → (tick_of (ticks_on k l port) port).sent ≡ None
     silent-from e on c zero h = e
     silent-from e on c (suc k) h = rw (on k) (c.silent k (omega arith))
 

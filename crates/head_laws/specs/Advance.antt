@@ -2,13 +2,15 @@
 -- rings, passed at once, and one more.
 -- Assumes nothing.
 use Prim.Native.Nat.{ℕ, zero, suc, ◌+◌, ◌-◌, ◌*◌, ◌/◌, ◌≤◌, ◌<◌, min}
-use Rattle.std.specs.Prelude.{◌≡◌, Bool, true, false, cond, ◌&&◌, List, [], ◌∷◌, eqb, ltb, leb}
+use Rattle.std.specs.Prelude.{Option, None, Some, ◌≡◌, Bool, true, false, cond, ◌&&◌, List, [], ◌∷◌, eqb, ltb, leb}
 use Rattle.std.proofs.Math.Path.{refl}
 use Rattle.std.proofs.Common.{sym, ap, ◌∙◌, ⊎_elim}
 use Rattle.std.proofs.Math.Bool.{and-eq-true_iff}
 use native.Mathlib.Omega.{arith}
 use borrow.Author.Tests.{lt-ltb, le-leb, leb-true, ne_eqb}
 use Rattle.std.proofs.Math.ListN.{length}
+use Rattle.frame.specs.declared.Address.{Address}
+use Rattle.frame.specs.declared.Body.{Body}
 use Rattle.laws.specs.Cases.{either, cut}
 use Rattle.laws.specs.Jump.{Jumps, ticks-told, ticks-end, leap-next, turn-next}
 use Rattle.laws.specs.Ticks.{ticks}
@@ -29,8 +31,6 @@ use Rattle.head_links.specs.Pass.{passed_of, quiet_of}
 use Rattle.head_links.specs.Tick.{tick_of}
 use Rattle.head_links.specs.declared.Link.{Link}
 use Rattle.head_links.specs.declared.Stepped.{Stepped}
-use Rattle.head_links.specs.declared.Sent.{Sent}
-use Rattle.head_links.specs.declared.Sent.TheVariants.{Nothing, To}
 use Rattle.head_survey.specs.Facts.{is_few, are_all_sound, sound_table, quiet_all}
 use Rattle.head_table.specs.Events.{port_of, react_of, reacted}
 use Rattle.head_table.specs.Output.{Output, output, pasted, note_of, note_link, message_of}
@@ -122,9 +122,9 @@ unfolding pasted
 pasted-more st f =
     either (λ (o : Output). st.frames ≤ o.frames) (ltb st.frames (length st.octets / 60)) _ _ (λ _. omega arith) (λ _. omega arith)
 
-note-more : (w : Sender) (st : Output) (x : Sent) → st.frames ≤ (note_of w st x).frames
-note-more w st Nothing = omega arith
-note-more w st (To a body) = pasted-more st (write_of (message_of w a body)).octets
+note-more : (w : Sender) (st : Output) (x : Option (Address × Body)) → st.frames ≤ (note_of w st x).frames
+note-more w st None = omega arith
+note-more w st (Some (a, body)) = pasted-more st (write_of (message_of w a body)).octets
 
 each_more : (e : Event) (w : Sender) (k : ℕ) (xs : List Link) (st : Output) → st.frames ≤ (each (note_link e w) k xs st).frames
 unfolding each
@@ -134,10 +134,10 @@ each_more e w k (l ∷ ls) st =
     let b = each_more e w (suc k) ls (note_link e w k l st) in
     omega arith
 
-note-some : (w : Sender) (st : Output) (x : Sent) → Sends x → st.frames ≡ 0 → 60 ≤ length st.octets → 1 ≤ (note_of w st x).frames
+note-some : (w : Sender) (st : Output) (x : Option (Address × Body)) → Sends x → st.frames ≡ 0 → 60 ≤ length st.octets → 1 ≤ (note_of w st x).frames
 unfolding pasted
-note-some w st Nothing s z h = absurd s
-note-some w st (To a body) s z h = rw (lt-ltb st.frames (length st.octets / 60) (omega arith)) (omega arith)
+note-some w st None s z h = absurd s
+note-some w st (Some (a, body)) s z h = rw (lt-ltb st.frames (length st.octets / 60) (omega arith)) (omega arith)
 
 -- where no quiet tick is left a frame is handed out
 first-sent : (w : Sender) (k : ℕ) (xs : List Link) (st : Output) → are_all_sound xs ≡ true → quiet_all xs ≡ 0 → st.frames ≡ 0 → 60 ≤ length st.octets

@@ -1,10 +1,12 @@
 -- Lemmas: what a call of the head that is done leaves, sends and tells, by its plan.
 -- Assumes nothing.
-use Rattle.std.specs.Prelude.{ℕ, ◌≡◌, true, leb, length}
+use Rattle.std.specs.Prelude.{Option, None, ℕ, ◌≡◌, true, leb, length}
 use Rattle.std.proofs.Common.{sym, ◌∙◌, arith, leb-true}
 use Rattle.std.proofs.Math.Path.{ap}
 use Rattle.std.proofs.Math.Bool.{and-eq-true_iff}
 use mathlib.Core.List.{List, ◌++◌, append-nil}
+use Rattle.frame.specs.declared.Address.{Address}
+use Rattle.frame.specs.declared.Body.{Body}
 use Rattle.frame.specs.declared.Message.{Message}
 use Rattle.frame.specs.declared.Reply.TheVariants.{Done}
 use Rattle.head_state.specs.Head.{sound_of}
@@ -13,7 +15,6 @@ use Rattle.head_links.specs.Link.{is_held}
 use Rattle.head_links.specs.Steps.{change_of}
 use Rattle.head_links.specs.declared.Change.{Change}
 use Rattle.head_links.specs.declared.Link.{Link}
-use Rattle.head_links.specs.declared.Sent.{Sent}
 use Rattle.head_survey.specs.Facts.{is_few, link_from, sound_table}
 use Rattle.head_table.specs.Events.{port_of, driven_of}
 use Rattle.head_table.specs.declared.Event.{Event}
@@ -57,7 +58,7 @@ module _ (h : Head) (xs : List Link) (r : Call) (os : List ℕ) (d : (serve_of h
 
   -- a change of one link
   pub does : (number : ℕ) (c : Change) (n : Notice)
-      → planned r h (known xs r) ≡ record { reply = Done; head = h; event = Event.At number c; lead = Sent.Nothing; notice = n; made = 0 }
+      → planned r h (known xs r) ≡ record { reply = Done; head = h; event = Event.At number c; lead = None; notice = n; made = 0 }
       → Has 1 xs number
       → Does h xs r os number (change_of c (link_from number 1 xs) number).link (sent_by (from h) (change_of c (link_from number 1 xs) number).sent) n
   unfolding serve_of done_of
@@ -79,7 +80,7 @@ module _ (h : Head) (xs : List Link) (r : Call) (os : List ℕ) (d : (serve_of h
       }
 
   -- no change of any link
-  pub leads : (next : Head) (lead : Sent) (n : Notice)
+  pub leads : (next : Head) (lead : Option (Address × Body)) (n : Notice)
       → planned r h (known xs r) ≡ record { reply = Done; head = next; event = Event.Nothing; lead = lead; notice = n; made = 0 }
       → Leads h xs r os next (sent_by (from next) lead) n
   unfolding serve_of done_of

@@ -1,17 +1,17 @@
 -- Lemmas: R149 and R150: the frames that a plan hands out, the head's own and then those of the links, by number.
 -- Assumes nothing.
-use Rattle.std.specs.Prelude.{ℕ, suc, ◌+◌, ◌*◌, ◌^◌, ◌<◌, ◌≤◌, ◌≡◌, refl, true, ◌⊎◌, length}
+use Rattle.std.specs.Prelude.{Option, None, Some, ℕ, suc, ◌+◌, ◌*◌, ◌^◌, ◌<◌, ◌≤◌, ◌≡◌, refl, true, ◌⊎◌, length}
 use Rattle.std.proofs.Math.Path.{ap}
 use Rattle.std.proofs.Common.{◌∙◌, inl, inr, arith}
 use mathlib.Core.List.{List, [], ◌∷◌, ◌++◌, append_assoc, append-nil}
 use Rattle.std.proofs.Math.ListN.{length-append}
+use Rattle.frame.specs.declared.Address.{Address}
+use Rattle.frame.specs.declared.Body.{Body}
 use Rattle.frame.specs.declared.Message.{Message}
 use Rattle.frame_range.specs.Fits.{is_individual, fits_message}
 use Rattle.frame_range.specs.Laws.{valid-of}
 use Rattle.lent.specs.Folds.{each}
 use Rattle.head_links.specs.declared.Link.{Link}
-use Rattle.head_links.specs.declared.Sent.{Sent}
-use Rattle.head_links.specs.declared.Sent.TheVariants.{Nothing, To}
 use Rattle.head_survey.specs.Facts.{are_all_sound}
 use Rattle.head_table.specs.Events.{react_of}
 use Rattle.head_table.specs.Output.{message_of, note_of, note_link}
@@ -32,10 +32,10 @@ both-valid (m ∷ ms) ns v w = (v.0, both-valid ms ns v.1 w)
 abbrev pub SenderFits : Sender → Type 0
 SenderFits s = (is_individual s.source ≡ true) × (s.timestamp.0 < 2 ^ 32)
 
-sent-valid : (s : Sender) (sent : Sent) → SenderFits s → SentFits sent → AllValid (sent_by s sent)
+sent-valid : (s : Sender) (sent : Option (Address × Body)) → SenderFits s → SentFits sent → AllValid (sent_by s sent)
 unfolding fits_message
-sent-valid s Nothing i f = tt
-sent-valid s (To a body) i f = (valid-of (message_of s a body) (i.1, f.2) (rw (f.0, i.0, f.1)), tt)
+sent-valid s None i f = tt
+sent-valid s (Some (a, body)) i f = (valid-of (message_of s a body) (i.1, f.2) (rw (f.0, i.0, f.1)), tt)
 
 links-valid : (e : Event) (s : Sender) (k : ℕ) (xs : List Link) → SenderFits s → EventFits e → are_all_sound xs ≡ true
     → AllValid (link_frames e s k xs)
@@ -46,9 +46,9 @@ links-valid e s k (x ∷ xs) i f h =
     (links-valid e s (suc k) xs i f p.1)
 
 -- one frame a link at most
-pub sent-few : (s : Sender) (sent : Sent) → length (sent_by s sent) ≤ 1
-sent-few s Nothing = omega arith
-sent-few s (To a body) = omega arith
+pub sent-few : (s : Sender) (sent : Option (Address × Body)) → length (sent_by s sent) ≤ 1
+sent-few s None = omega arith
+sent-few s (Some (a, body)) = omega arith
 
 pub links-few : (e : Event) (s : Sender) (k : ℕ) (xs : List Link) → length (link_frames e s k xs) ≤ length xs
 links-few e s k [] = omega arith
@@ -57,10 +57,10 @@ links-few e s k (x ∷ xs) =
     (omega (arith, sent-few s (react_of e x k).sent, links-few e s (suc k) xs))
 
 -- packing what one party sends, and then what all send
-note-packed : (s : Sender) (sent : Sent) (ms : List Message) (os : List ℕ) → AllValid (sent_by s sent)
+note-packed : (s : Sender) (sent : Option (Address × Body)) (ms : List Message) (os : List ℕ) → AllValid (sent_by s sent)
     → 60 * (length ms + length (sent_by s sent)) ≤ length os → note_of s (packed ms os) sent ≡ packed (ms ++ sent_by s sent) os
-note-packed s Nothing ms os v room = rw (append-nil ms)
-note-packed s (To a body) ms os v room = pasted-packed ms os (message_of s a body) v.0 (omega arith)
+note-packed s None ms os v room = rw (append-nil ms)
+note-packed s (Some (a, body)) ms os v room = pasted-packed ms os (message_of s a body) v.0 (omega arith)
 
 links-packed : (e : Event) (s : Sender) (k : ℕ) (xs : List Link) (ms : List Message) (os : List ℕ) → SenderFits s → EventFits e
     → are_all_sound xs ≡ true → 60 * (length ms + length (link_frames e s k xs)) ≤ length os
@@ -83,7 +83,7 @@ nothing-frames s k [] = refl
 nothing-frames s k (x ∷ xs) = nothing-frames s (suc k) xs
 
 -- where the head's own frame comes with none of a link, there are no more frames than of the one or of the others
-pub frames-apart : (p : Plan) (xs : List Link) (n : ℕ) → (p.lead ≡ Nothing) ⊎ (p.event ≡ Event.Nothing) → 1 ≤ n
+pub frames-apart : (p : Plan) (xs : List Link) (n : ℕ) → (p.lead ≡ None) ⊎ (p.event ≡ Event.Nothing) → 1 ≤ n
     → length (link_frames p.event (sender_of p) 1 xs) ≤ n → length (frames_of p xs) ≤ n
 frames-apart p xs n (inl e) o k = rw e k
 frames-apart p xs n (inr e) o k =

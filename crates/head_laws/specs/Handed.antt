@@ -1,6 +1,6 @@
 -- Lemmas: R149: every frame of a call stands in the output, and is the encoding of a valid message.
 -- Assumes nothing.
-use Rattle.std.specs.Prelude.{ℕ, ◌*◌, ◌^◌, ◌<◌, ◌≤◌, ◌≡◌, refl, true, List, [], ◌++◌, ◌⊎◌, leb, drop}
+use Rattle.std.specs.Prelude.{None, ℕ, ◌*◌, ◌^◌, ◌<◌, ◌≤◌, ◌≡◌, refl, true, List, [], ◌++◌, ◌⊎◌, leb, drop}
 use Rattle.std.proofs.Math.Path.{ap}
 use Rattle.std.proofs.Common.{◌∙◌, inl, inr, arith}
 use Rattle.std.proofs.Math.Bool.{and-eq-true_iff}
@@ -11,7 +11,6 @@ use Rattle.frame.specs.declared.Reply.{Reply}
 use Rattle.head_state.specs.Head.{sound_of}
 use Rattle.head_state.specs.declared.Head.{Head}
 use Rattle.head_links.specs.declared.Link.{Link}
-use Rattle.head_links.specs.declared.Sent.TheVariants.{Nothing}
 use Rattle.head_survey.specs.Facts.{is_few, sound_table}
 use Rattle.head_survey.specs.declared.Facts.{Facts}
 use Rattle.head_table.specs.Output.{Output, output}
@@ -34,7 +33,7 @@ use Rattle.head_laws.specs.Window.{head-parts}
 
 -- the head's own frame comes with none of a link
 pub planned-apart : (r : Call) (h : Head) (f : Facts) → Passed (tests r h f)
-    → ((planned r h f).lead ≡ Nothing) ⊎ ((planned r h f).event ≡ Event.Nothing)
+    → ((planned r h f).lead ≡ None) ⊎ ((planned r h f).event ≡ Event.Nothing)
 planned-apart (Call.Open start length sync window) h f t = inr refl
 planned-apart (Call.Admit a pending sync) h f t = inl refl
 planned-apart (Call.Reject a pending sync) h f t = inr refl

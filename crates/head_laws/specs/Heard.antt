@@ -1,6 +1,6 @@
 -- Lemmas: a message changes the head in nothing, and at most the link that it came on, by a change that this link's state allows.
 -- Assumes nothing.
-use Rattle.std.specs.Prelude.{ℕ, ◌≡◌, refl, true, List}
+use Rattle.std.specs.Prelude.{None, ℕ, ◌≡◌, refl, true, List}
 use Rattle.laws.specs.Cases.{either}
 use Rattle.clock.specs.Counts.{round_trip}
 use Rattle.clock.specs.declared.Quanta.{Quanta}
@@ -14,7 +14,6 @@ use Rattle.head_state.specs.declared.Head.{Head}
 use Rattle.head_links.specs.Link.{is_held, is_registered}
 use Rattle.head_links.specs.declared.Change.{Change}
 use Rattle.head_links.specs.declared.Link.{Link}
-use Rattle.head_links.specs.declared.Sent.{Sent}
 use Rattle.head_table.specs.declared.Event.{Event}
 use Rattle.head_hearing.specs.Hear.{on_link, on_registered, confirmed_by, confirmed, requested, heard_of}
 use Rattle.head_plans.specs.declared.Kind.{Kind}
@@ -49,7 +48,7 @@ Heeds (Event.At number c) l link = (number ≡ link) × ByMessage c l
 pub record Heard (h : Head) (l : Link) (link : ℕ) (p : Plan) : Type 0 where
   pub reply : p.reply ≡ Done
   pub head : p.head ≡ h
-  pub lead : p.lead ≡ Sent.Nothing
+  pub lead : p.lead ≡ None
   pub event : Heeds p.event l link
 
 module _ (h : Head) (l : Link) (link : ℕ) (trip : Quanta) where

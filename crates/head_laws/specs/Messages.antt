@@ -1,6 +1,6 @@
 -- Lemmas: what a message that is accepted at the head leaves, sends and tells.
 -- Assumes nothing.
-use Rattle.std.specs.Prelude.{ℕ, ◌≡◌, true, false, List, [], ◌∷◌}
+use Rattle.std.specs.Prelude.{None, ℕ, ◌≡◌, true, false, List, [], ◌∷◌}
 use Rattle.std.proofs.Math.Path.{refl}
 use Rattle.std.proofs.Common.{ap, ◌∙◌}
 use Rattle.clock.specs.Counts.{round_trip}
@@ -20,7 +20,6 @@ use Rattle.head_links.specs.Link.{idle, registered_at, is_held, is_registered}
 use Rattle.head_links.specs.Steps.{with_watchdog, change_of}
 use Rattle.head_links.specs.declared.Change.{Change}
 use Rattle.head_links.specs.declared.Link.{Link}
-use Rattle.head_links.specs.declared.Sent.{Sent}
 use Rattle.head_survey.specs.Facts.{link_from}
 use Rattle.head_table.specs.Output.{message_of}
 use Rattle.head_table.specs.declared.Event.{Event}
@@ -73,9 +72,9 @@ module _ (h : Head) (xs : List Link) (os : List ℕ) (link : ℕ) (m : Message) 
 
     -- and one that changes nothing
     passes : (body : Body) (n : Notice) → m.body ≡ body
-        → heard_of body h l link trip ≡ record { reply = Done; head = h; event = Event.Nothing; lead = Sent.Nothing; notice = n; made = 0 }
+        → heard_of body h l link trip ≡ record { reply = Done; head = h; event = Event.Nothing; lead = None; notice = n; made = 0 }
         → Leads h xs r os h [] n
-    passes body n e q = leads h xs r os d h Sent.Nothing n (plan-of body e ∙ q)
+    passes body n e q = leads h xs r os d h None n (plan-of body e ∙ q)
 
     -- REGISTER_REQ flag 1 gives a notice, with link 0
     pub newcomer-heard : (pending : ℕ) → m.body ≡ RegisterReq RegisterReqFlag.Register pending → Leads h xs r os h [] (told Kind.Request 0 trip)

@@ -1,6 +1,6 @@
 -- Statement: the periodic GATE goes out at the tick that ends its timer, and restarts it (R19, R190).
 -- Assumes nothing.
-use Rattle.std.specs.Prelude.{ℕ, zero, suc, ◌+◌, ◌-◌, ◌<◌, ◌≡◌, List, ◌∷◌, ◌++◌}
+use Rattle.std.specs.Prelude.{None, Some, ℕ, zero, suc, ◌+◌, ◌-◌, ◌<◌, ◌≡◌, List, ◌∷◌, ◌++◌}
 use Rattle.clock.specs.Numbers.{periodic}
 use Rattle.frame.specs.declared.Body.TheVariants.{Gate}
 use Rattle.frame.specs.declared.Grants.TheVariants.{None}
@@ -11,7 +11,6 @@ use Rattle.head_state.specs.declared.Head.{Head}
 use Rattle.head_links.specs.Steps.{with_watchdog, with_periodic}
 use Rattle.head_links.specs.Tick.{tick_of}
 use Rattle.head_links.specs.declared.Link.{Link}
-use Rattle.head_links.specs.declared.Sent.TheVariants.{Nothing, To}
 use Rattle.head_links.specs.declared.State.TheVariants.{Registered}
 use Rattle.head_survey.specs.Facts.{link_from}
 use Rattle.head_table.specs.Output.{message_of}
@@ -31,7 +30,7 @@ restarted l = with_periodic (with_watchdog l (record { left = l.watchdog.left - 
 
 -- the timer's last tick sends an empty GATE and restarts it; the link stays registered
 unfoldable pub GateFires : Type 0
-GateFires = (l : Link) (port : ℕ) → Gates 1 l → tick_of l port ≡ record { link = restarted l; sent = To l.address (Gate None) }
+GateFires = (l : Link) (port : ℕ) → Gates 1 l → tick_of l port ≡ record { link = restarted l; sent = Some (l.address, Gate None) }
 
 -- k ticks of a link, one after the other
 abbrev pub ticks_on : ℕ → Link → ℕ → Link
@@ -40,8 +39,8 @@ ticks_on (suc k) l port = ticks_on k (tick_of l port).link port
 
 -- the GATE comes at the tick after the next n: none of these sends anything, and the one after it comes 3,125,000 ticks later
 pub record Comes (n : ℕ) (l : Link) (port : ℕ) : Type 0 where
-  pub silent : (k : ℕ) → k < n → (tick_of (ticks_on k l port) port).sent ≡ Nothing
-  pub fires : (tick_of (ticks_on n l port) port).sent ≡ To l.address (Gate None)
+  pub silent : (k : ℕ) → k < n → (tick_of (ticks_on k l port) port).sent ≡ None
+  pub fires : (tick_of (ticks_on n l port) port).sent ≡ Some (l.address, Gate None)
   pub again : suc n + periodic < l.watchdog.left → Gates periodic (ticks_on (suc n) l port)
 
 unfoldable pub GateComes : Type 0

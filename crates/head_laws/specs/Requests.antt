@@ -1,6 +1,6 @@
 -- Lemmas: what a client's request that is done leaves, sends and tells.
 -- Assumes nothing.
-use Rattle.std.specs.Prelude.{ℕ, ◌≡◌, refl, true, false, not, ◌&&◌, List, [], ◌∷◌, ◌≢◌, eqb, length}
+use Rattle.std.specs.Prelude.{Some, ℕ, ◌≡◌, refl, true, false, not, ◌&&◌, List, [], ◌∷◌, ◌≢◌, eqb, length}
 use Rattle.std.proofs.Common.{sym, ap, ◌∙◌, arith, eqb-true}
 use Rattle.std.proofs.Math.Bool.{and-eq-true_iff}
 use Rattle.std.proofs.lemmas.Bool.{eqb-false, not-true, not-false}
@@ -23,7 +23,6 @@ use Rattle.head_links.specs.Link.{idle, waiting_at, is_held, is_registered}
 use Rattle.head_links.specs.Steps.{gated}
 use Rattle.head_links.specs.declared.Change.{Change}
 use Rattle.head_links.specs.declared.Link.{Link}
-use Rattle.head_links.specs.declared.Sent.TheVariants.{To}
 use Rattle.head_links.specs.declared.Stepped.{Stepped}
 use Rattle.head_survey.specs.Facts.{idle_from, link_from, sound_table}
 use Rattle.head_table.specs.Output.{message_of}
@@ -42,9 +41,9 @@ use Rattle.head_laws.specs.Refusals.{call-reply, call-accepted}
 use Rattle.head_laws.specs.Sound.{facts-idle}
 
 -- a GATE is sent whether or not the link is registered
-gated-sent : (l : Link) (grants : Grants) → (gated l grants).sent ≡ To l.address (Gate grants)
+gated-sent : (l : Link) (grants : Grants) → (gated l grants).sent ≡ Some (l.address, Gate grants)
 unfolding gated
-gated-sent l grants = either (λ (s : Stepped). s.sent ≡ To l.address (Gate grants)) (is_registered l.state) _ _ (λ _. refl) (λ _. refl)
+gated-sent l grants = either (λ (s : Stepped). s.sent ≡ Some (l.address, Gate grants)) (is_registered l.state) _ _ (λ _. refl) (λ _. refl)
 
 -- 11 is given only where no link is idle
 abbrev FullOnly : List Link → Reply → Type 0
@@ -103,7 +102,7 @@ module _ (h : Head) (xs : List Link) (os : List ℕ) where
   pub reject-does : (a : Address) (pending : ℕ) (sync : Quanta) → (serve_of h xs (Call.Reject a pending sync) os).answer.reply ≡ Done
       → Leads h xs (Call.Reject a pending sync) os h (message_of (from h) a (Register 0 RegisterFlag.Nack sync pending) ∷ []) quiet
   reject-does a pending sync d =
-      leads h xs (Call.Reject a pending sync) os d h (To a (Register 0 RegisterFlag.Nack sync pending)) quiet refl
+      leads h xs (Call.Reject a pending sync) os d h (Some (a, Register 0 RegisterFlag.Nack sync pending)) quiet refl
 
   -- R159, R160
   pub open-does : (start : Count) (length sync window : Quanta) → (serve_of h xs (Call.Open start length sync window) os).answer.reply ≡ Done
@@ -111,7 +110,7 @@ module _ (h : Head) (xs : List Link) (os : List ℕ) where
       (message_of (from h) (record { 0 = 0x0180C2000001 }) (Discovery (record { start = start; length = length; force = false }) sync) ∷ []) quiet
   open-does start length sync window d =
       leads h xs (Call.Open start length sync window) os d (with_window h (opened h.count start window))
-      (To (record { 0 = 0x0180C2000001 }) (Discovery (record { start = start; length = length; force = false }) sync)) quiet refl
+      (Some ((record { 0 = 0x0180C2000001 }), (Discovery (record { start = start; length = length; force = false }) sync))) quiet refl
 
   module _ (link : ℕ) where
     abbrev l : Link

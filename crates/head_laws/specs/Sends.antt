@@ -1,8 +1,9 @@
 -- Lemmas: what a link sends at a tick or a change, and what the head itself sends, is in range.
 -- Assumes nothing.
+use Rattle.frame.specs.declared.Body.{Body}
 use Rattle.head_table.specs.declared.Event.{Event}
 use Rattle.head_links.specs.declared.Change.{Change}
-use Rattle.std.specs.Prelude.{ℕ, ◌^◌, ◌<◌, ◌≡◌, true, eqb, ltb}
+use Rattle.std.specs.Prelude.{Option, None, Some, ℕ, ◌^◌, ◌<◌, ◌≡◌, true, eqb, ltb}
 use Rattle.std.proofs.Math.Path.{refl}
 use Rattle.std.proofs.Math.Bool.{and-eq-true_iff}
 use Rattle.std.proofs.Common.{arith}
@@ -28,8 +29,6 @@ use Rattle.head_links.specs.Steps.{with_watchdog, gated, change_of}
 use Rattle.head_links.specs.Tick.{tick_wait, tick_periodic, tick_watchdog, tick_in}
 use Rattle.head_links.specs.Pass.{passed_of}
 use Rattle.head_links.specs.declared.Link.{Link}
-use Rattle.head_links.specs.declared.Sent.{Sent}
-use Rattle.head_links.specs.declared.Sent.TheVariants.{Nothing, To}
 use Rattle.head_links.specs.declared.State.{State}
 use Rattle.head_links.specs.declared.State.TheVariants.{Idle, Waiting, Registered}
 use Rattle.head_links.specs.declared.Stepped.{Stepped}
@@ -44,9 +43,9 @@ use Rattle.head_laws.specs.Sound.{party-parts}
 use Rattle.head_laws.specs.Stated.{RequestTyped}
 
 -- a body for an address, both in range
-abbrev pub SentFits : Sent → Type 0
-SentFits Nothing = Unit {0}
-SentFits (To a body) = (fits_address a ≡ true) × (fits_body body ≡ true) × BodyTyped body
+abbrev pub SentFits : Option (Address × Body) → Type 0
+SentFits None = Unit {0}
+SentFits (Some (a, body)) = (fits_address a ≡ true) × (fits_body body ≡ true) × BodyTyped body
 
 module _ (l : Link) (port : ℕ) (a : fits_address l.address ≡ true) (k : port < 2 ^ 16) where
   gate-sends : (grants : Grants) → fits_body (Gate grants) ≡ true → GrantsTyped (listed grants) → SentFits (gated l grants).sent

@@ -1,6 +1,7 @@
 -- Statement: what is claimed of every run of a head, of its refusals and of the frames that it hands out.
 -- Assumes nothing.
-use Rattle.std.specs.Prelude.{ℕ, suc, ◌^◌, ◌<◌, ◌≡◌, true, List, [], ◌∷◌, ◌++◌, length}
+use Rattle.std.specs.Prelude.{Option, None, Some, ℕ, suc, ◌^◌, ◌<◌, ◌≡◌, true, List, [], ◌∷◌, ◌++◌, length}
+use Rattle.frame.specs.declared.Body.{Body}
 use Rattle.frame.specs.Layout.{encode}
 use Rattle.frame.specs.Range.{Valid}
 use Rattle.frame.specs.declared.Address.{Address}
@@ -8,9 +9,7 @@ use Rattle.frame.specs.declared.Message.{Message}
 use Rattle.frame.specs.declared.Reply.{Reply}
 use Rattle.frame_range.specs.Fits.{is_individual}
 use Rattle.head_state.specs.declared.Head.{Head}
-use Rattle.head_links.specs.declared.Sent.TheVariants.{Nothing, To}
 use Rattle.head_links.specs.declared.Link.{Link}
-use Rattle.head_links.specs.declared.Sent.{Sent}
 use Rattle.head_survey.specs.Facts.{is_few}
 use Rattle.head_judging.specs.declared.Call.{Call}
 use Rattle.head_calls.specs.Fresh.{fresh_of}
@@ -40,9 +39,9 @@ encoded [] = []
 encoded (m ∷ ms) = encode m ++ encoded ms
 
 -- what one party sends: a message, or none
-abbrev pub sent_by : Sender → Sent → List Message
-sent_by s Nothing = []
-sent_by s (To a body) = message_of s a body ∷ []
+abbrev pub sent_by : Sender → Option (Address × Body) → List Message
+sent_by s None = []
+sent_by s (Some (a, body)) = message_of s a body ∷ []
 
 -- what the links send at an event, where the first has the number k
 abbrev pub link_frames : Event → Sender → ℕ → List Link → List Message

@@ -1,6 +1,6 @@
 -- Lemmas: a tick and the opening of a window keep the head sound.
 -- Assumes nothing.
-use Rattle.std.specs.Prelude.{ℕ, zero, suc, ◌≤◌, ◌≡◌, refl, true, ◌&&◌, ◌≢◌, eqb}
+use Rattle.std.specs.Prelude.{Option, None, Some, ℕ, zero, suc, ◌≤◌, ◌≡◌, refl, true, ◌&&◌, ◌≢◌, eqb}
 use Rattle.std.proofs.Common.{sym, ◌∙◌, arith, leb-true}
 use Rattle.std.proofs.Math.Bool.{and-eq-true_iff}
 use Rattle.std.proofs.lemmas.Bool.{eqb-false}
@@ -11,8 +11,6 @@ use Rattle.clock.specs.Numbers.{furthest, start_in_range, serves}
 use Rattle.clock.specs.Timers.{runs, ticked}
 use Rattle.clock.specs.declared.Count.{Count}
 use Rattle.clock.specs.declared.Quanta.{Quanta}
-use Rattle.clock.specs.declared.Reach.{Reach}
-use Rattle.clock.specs.declared.Reach.TheVariants.{Past, Ahead}
 use Rattle.frame_range.specs.Fits.{is_individual}
 use Rattle.head_state.specs.Head.{with_window, tick_of, sound_of, after_of}
 use Rattle.head_state.proofs.Laws.{window-tick, window-join}
@@ -36,9 +34,9 @@ tick-window (Before t length) h =
 tick-window (Inside t) h =
     either (λ (w : Window). sound_window w ≡ true) (ticked t).rang _ _ (λ _. refl) (λ e. ticked-runs t longest_window h e)
 
-opened-at : (r : Reach) (length : Quanta) → reach_in_range r ≡ true → fits length ≡ true → sound_window (opened_at r length) ≡ true
-opened-at Past length r h = refl
-opened-at (Ahead wait) length r h =
+opened-at : (r : Option Quanta) (length : Quanta) → reach_in_range r ≡ true → fits length ≡ true → sound_window (opened_at r length) ≡ true
+opened-at None length r h = refl
+opened-at (Some wait) length r h =
     either (λ (w : Window). sound_window w ≡ true) (eqb wait.0 0) _ _ (λ _. inside-sound length h)
     (λ e.
     let some : wait.0 ≢ 0 = eqb-false wait.0 0 e in

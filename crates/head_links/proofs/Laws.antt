@@ -1,8 +1,10 @@
 -- Lemmas: the laws of a jump, of one link, and that the tick after all of its quiet ones sends a frame.
 -- Assumes nothing.
-use Rattle.std.specs.Prelude.{ℕ, suc, ◌≤◌, ◌<◌, min, ◌≡◌, refl, Bool, true, ◌&&◌, ◌⊎◌, eqb}
+use Rattle.std.specs.Prelude.{Option, None, Some, ℕ, suc, ◌≤◌, ◌<◌, min, ◌≡◌, refl, Bool, true, ◌&&◌, ◌⊎◌, eqb}
 use Rattle.std.proofs.Math.Bool.{and-eq-true_iff}
 use Rattle.std.proofs.Common.{inl, inr, ⊎_elim, arith, eqb-true}
+use Rattle.frame.specs.declared.Address.{Address}
+use Rattle.frame.specs.declared.Body.{Body}
 use Rattle.laws.specs.Cases.{cut}
 use Rattle.clock.specs.Laws.{ticked-quiet, ticked-rings, passed_none as timer-none, passed-off, passed-joined, passed-runs, quiet-off, quiet-on, quiet-falls}
 use Rattle.clock.specs.Numbers.{watchdog, periodic, wait, furthest_advance}
@@ -16,8 +18,6 @@ use Rattle.head_links.specs.Tick.{tick_wait, tick_periodic, tick_watchdog, tick_
 use Rattle.head_links.specs.declared.State.{State}
 use Rattle.head_links.specs.declared.State.TheVariants.{Idle, Waiting, Registered}
 use Rattle.head_links.specs.declared.Link.{Link}
-use Rattle.head_links.specs.declared.Sent.{Sent}
-use Rattle.head_links.specs.declared.Sent.TheVariants.{Nothing, To}
 
 parts : (a b c d : Bool) → (a && b && c && d) ≡ true → (a ≡ true) × (b ≡ true) × (c ≡ true) × (d ≡ true)
 parts a b c d h =
@@ -95,9 +95,9 @@ quiet-less l h =
     omega arith
 
 -- where no quiet tick is left, the next sends a frame
-abbrev pub Sends : Sent → Type 0
-Sends Nothing = ⊥
-Sends (To a body) = Unit {0}
+abbrev pub Sends : Option (Address × Body) → Type 0
+Sends None = ⊥
+Sends (Some (a, body)) = Unit {0}
 
 rings : (t : Timer) → timer_quiet t ≡ 0 → (ticked t).rang ≡ true
 rings t h =

@@ -11,7 +11,7 @@ ghost use Rattle.head_links.specs.Tick.{tick_wait, tick_periodic, tick_watchdog,
 use clock::{Quanta, Timer};
 use frame::{Address, Body, Grants, RegisterFlag};
 
-#[derive(Clone, Copy)]
+#[derive(Clone, Copy, PartialEq, Eq)]
 pub enum State {
     Idle,
     Waiting,
@@ -42,27 +42,18 @@ pub enum Change {
     Report,
 }
 
-// A frame on its way out, before its octets: to whom, and what it says.
-#[derive(Clone, Copy)]
-pub enum Sent {
-    Nothing,
-    To(Address, Body),
-}
-
+// A link after a step, and the frame that it sends, if any: to whom, and what it says.
 #[derive(Clone, Copy)]
 pub struct Stepped {
     pub link: Link,
-    pub sent: Sent,
+    pub sent: Option<(Address, Body)>,
 }
 
 impl Stepped {
     pub fn still(link: Link) -> Stepped
         ensures { result ≡ still link }
     {
-        Stepped {
-            link,
-            sent: Sent::Nothing,
-        }
+        Stepped { link, sent: None }
     }
 }
 
@@ -73,90 +64,73 @@ impl Link {
     pub fn idle() -> Link
         ensures { result ≡ idle }
     {
-        let stopped = Timer::stopped();
-        let nobody = Address(0);
         Link {
-            address: nobody,
+            address: Address(0),
             state: State::Idle,
-            wait: stopped,
-            watchdog: stopped,
-            periodic: stopped,
+            wait: Timer::stopped(),
+            watchdog: Timer::stopped(),
+            periodic: Timer::stopped(),
         }
     }
 
     fn waiting_at(address: Address) -> Link
         ensures { result ≡ waiting_at address }
     {
-        let stopped = Timer::stopped();
-        let wait = stopped.start(Timer::WAIT);
         Link {
             address,
             state: State::Waiting,
-            wait,
-            watchdog: stopped,
-            periodic: stopped,
+            wait: Timer::stopped().start(Timer::WAIT),
+            ..Link::idle()
         }
     }
 
     fn registered_at(address: Address) -> Link
         ensures { result ≡ registered_at address }
     {
-        let stopped = Timer::stopped();
-        let watchdog = stopped.start(Timer::WATCHDOG);
-        let periodic = stopped.start(Timer::PERIODIC);
         Link {
             address,
             state: State::Registered,
-            wait: stopped,
-            watchdog,
-            periodic,
+            watchdog: Timer::stopped().start(Timer::WATCHDOG),
+            periodic: Timer::stopped().start(Timer::PERIODIC),
+            ..Link::idle()
         }
     }
 
     pub fn is_held(self) -> bool
         ensures { result ≡ is_held self.state }
     {
-        let state = self.state;
-        match state {
-            State::Idle => false,
-            State::Waiting => true,
-            State::Registered => true,
-        }
+        self.state != State::Idle
     }
 
     pub fn is_registered(self) -> bool
         ensures { result ≡ is_registered self.state }
     {
-        let state = self.state;
-        match state {
-            State::Idle => false,
-            State::Waiting => false,
-            State::Registered => true,
-        }
+        self.state == State::Registered
     }
 
     // Each state has its own address and timers; that no other link holds the address is the table's affair.
+    #[tactic(auto, unfolding(crate::specs::Sound::sound_of))]
     pub fn sound(self) -> bool
         ensures { result ≡ sound_of self }
     {
-        let address = self.address;
-        let wait = self.wait;
-        let watchdog = self.watchdog;
-        let periodic = self.periodic;
-        let state = self.state;
-        match state {
-            State::Idle => (address.0 == 0) & wait.off() & watchdog.off() & periodic.off(),
+        match self.state {
+            State::Idle => {
+                (self.address == Address(0))
+                    & self.wait.off()
+                    & self.watchdog.off()
+                    & self.periodic.off()
+            }
             State::Waiting => {
-                frame_range::individual(address)
-                    & wait.runs(Timer::WAIT)
-                    & watchdog.off()
-                    & periodic.off()
+                frame_range::individual(self.address)
+                    & self.wait.runs(Timer::WAIT)
+                    & self.watchdog.off()
+                    & self.periodic.off()
             }
             State::Registered => {
-                frame_range::individual(address)
-                    & wait.off()
-                    & watchdog.runs(Timer::WATCHDOG)
-                    & periodic.runs(Timer::PERIODIC)
+                frame_range::individual(self.address)
+                    & self.wait.off()
+                    & self.watchdog.runs(Timer::WATCHDOG)
+                    & self.periodic.runs(Timer::PERIODIC)
             }
         }
     }
@@ -172,14 +146,13 @@ impl Link {
         };
         Stepped {
             link: Link::waiting_at(address),
-            sent: Sent::To(address, body),
+            sent: Some((address, body)),
         }
     }
 
     fn reregistered(self, port: u16, sync: Quanta) -> Stepped
         ensures { result ≡ reregistered self port sync }
     {
-        let address = self.address;
         let body = Body::Register {
             port,
             flag: RegisterFlag::Reregister,
@@ -187,52 +160,48 @@ impl Link {
             pending: 0,
         };
         Stepped {
-            link: Link::waiting_at(address),
-            sent: Sent::To(address, body),
+            link: Link::waiting_at(self.address),
+            sent: Some((self.address, body)),
         }
     }
 
     fn deregistered(self, port: u16) -> Stepped
         ensures { result ≡ deregistered self port }
     {
-        let address = self.address;
-        let none = Quanta(0);
         let body = Body::Register {
             port,
             flag: RegisterFlag::Deregister,
-            sync: none,
+            sync: Quanta(0),
             pending: 0,
         };
         Stepped {
             link: Link::idle(),
-            sent: Sent::To(address, body),
+            sent: Some((self.address, body)),
         }
     }
 
     // A GATE restarts the periodic timer of a registered link.
+    #[tactic(auto, unfolding(crate::specs::Steps::gated))]
     fn gated(self, grants: Grants) -> Stepped
         ensures { result ≡ gated self grants }
     {
-        let address = self.address;
-        let sent = Sent::To(address, Body::Gate(grants));
+        let mut link = self;
         if self.is_registered() {
-            let mut next = self;
-            let periodic = self.periodic;
-            let again = periodic.start(Timer::PERIODIC);
-            next.periodic = again;
-            return Stepped { link: next, sent };
+            link.periodic = self.periodic.start(Timer::PERIODIC);
         }
-        Stepped { link: self, sent }
+        Stepped {
+            link,
+            sent: Some((self.address, Body::Gate(grants))),
+        }
     }
 
     // REGISTER_ACK with 1, which an empty GATE follows.
     fn registered(self) -> Stepped
         ensures { result ≡ registered self }
     {
-        let address = self.address;
         Stepped {
-            link: Link::registered_at(address),
-            sent: Sent::To(address, Body::Gate(Grants::None)),
+            link: Link::registered_at(self.address),
+            sent: Some((self.address, Body::Gate(Grants::None))),
         }
     }
 
@@ -240,11 +209,10 @@ impl Link {
     fn reported(self) -> Stepped
         ensures { result ≡ reported self }
     {
-        let watchdog = self.watchdog;
-        let again = watchdog.start(Timer::WATCHDOG);
-        let mut next = self;
-        next.watchdog = again;
-        Stepped::still(next)
+        Stepped::still(Link {
+            watchdog: self.watchdog.start(Timer::WATCHDOG),
+            ..self
+        })
     }
 
     pub fn change(self, port: u16, change: Change) -> Stepped
@@ -264,54 +232,54 @@ impl Link {
         }
     }
 
+    #[tactic(auto, unfolding(crate::specs::Tick::tick_wait))]
     fn tick_wait(self, port: u16) -> Stepped
         ensures { result ≡ tick_wait self port }
     {
-        let wait = self.wait;
-        let t = wait.tick();
+        let t = self.wait.tick();
         if t.rang {
             return self.deregistered(port);
         }
-        let left = t.timer;
-        let mut next = self;
-        next.wait = left;
-        Stepped::still(next)
+        Stepped::still(Link {
+            wait: t.timer,
+            ..self
+        })
     }
 
+    #[tactic(auto, unfolding(crate::specs::Tick::tick_periodic))]
     fn tick_periodic(self) -> Stepped
         ensures { result ≡ tick_periodic self }
     {
-        let periodic = self.periodic;
-        let t = periodic.tick();
-        let left = t.timer;
-        let mut next = self;
+        let t = self.periodic.tick();
         if t.rang {
             return self.gated(Grants::None);
         }
-        next.periodic = left;
-        Stepped::still(next)
+        Stepped::still(Link {
+            periodic: t.timer,
+            ..self
+        })
     }
 
+    #[tactic(auto, unfolding(crate::specs::Tick::tick_watchdog))]
     fn tick_watchdog(self, port: u16) -> Stepped
         ensures { result ≡ tick_watchdog self port }
     {
-        let watchdog = self.watchdog;
-        let t = watchdog.tick();
+        let t = self.watchdog.tick();
         if t.rang {
             return self.deregistered(port);
         }
-        let left = t.timer;
-        let mut next = self;
-        next.watchdog = left;
-        next.tick_periodic()
+        let watched = Link {
+            watchdog: t.timer,
+            ..self
+        };
+        watched.tick_periodic()
     }
 
     // Wait or watchdog first; a link that it drops sends no periodic GATE.
     pub fn tick(self, port: u16) -> Stepped
         ensures { result ≡ tick_of self port }
     {
-        let state = self.state;
-        match state {
+        match self.state {
             State::Idle => Stepped::still(self),
             State::Waiting => self.tick_wait(port),
             State::Registered => self.tick_watchdog(port),
@@ -319,32 +287,25 @@ impl Link {
     }
 
     // After k ticks, at none of which a timer rings.
+    #[tactic(auto, unfolding(crate::specs::Pass::passed_of))]
     pub fn passed(self, k: u32) -> Link
         ensures { result ≡ passed_of self k }
     {
-        let wait = self.wait;
-        let watchdog = self.watchdog;
-        let periodic = self.periodic;
-        let waited = wait.passed(k);
-        let watched = watchdog.passed(k);
-        let sent = periodic.passed(k);
-        let mut next = self;
-        next.wait = waited;
-        next.watchdog = watched;
-        next.periodic = sent;
-        next
+        Link {
+            wait: self.wait.passed(k),
+            watchdog: self.watchdog.passed(k),
+            periodic: self.periodic.passed(k),
+            ..self
+        }
     }
 
     // How many ticks come before the one at which a timer rings.
+    #[tactic(auto, unfolding(crate::specs::Pass::quiet_of))]
     pub fn quiet(self) -> u32
         ensures { result ≡ quiet_of self }
     {
-        let wait = self.wait;
-        let watchdog = self.watchdog;
-        let periodic = self.periodic;
-        clock::least(
-            wait.quiet(),
-            clock::least(watchdog.quiet(), periodic.quiet()),
-        )
+        self.wait
+            .quiet()
+            .min(self.watchdog.quiet().min(self.periodic.quiet()))
     }
 }

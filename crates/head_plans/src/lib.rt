@@ -7,7 +7,6 @@ ghost use Rattle.head_plans.specs.Plan.{quiet, refused, accepted, leaping, sendi
 use clock::Quanta;
 use frame::{Address, Body, Reply};
 use frame_queues::Sets;
-use head_links::Sent;
 use head_state::Head;
 use head_table::Event;
 
@@ -33,7 +32,7 @@ pub struct Plan {
     pub reply: Reply,
     pub head: Head,
     pub event: Event,
-    pub lead: Sent,
+    pub lead: Option<(Address, Body)>,
     pub notice: Notice,
     pub made: u64,
 }
@@ -42,30 +41,15 @@ impl Notice {
     pub fn quiet() -> Notice
         ensures { result ≡ quiet }
     {
-        let none = Quanta(0);
         Notice {
             kind: Kind::Nothing,
             link: 0,
-            trip: none,
+            trip: Quanta(0),
         }
     }
 }
 
 impl Plan {
-    // A refusal offers nothing to any link and sends nothing.
-    pub fn refused(head: Head, reply: Reply) -> Plan
-        ensures { result ≡ refused head reply }
-    {
-        Plan {
-            reply,
-            head,
-            event: Event::Nothing,
-            lead: Sent::Nothing,
-            notice: Notice::quiet(),
-            made: 0,
-        }
-    }
-
     pub fn accepted(head: Head, event: Event) -> Plan
         ensures { result ≡ accepted head event }
     {
@@ -73,9 +57,19 @@ impl Plan {
             reply: Reply::Done,
             head,
             event,
-            lead: Sent::Nothing,
+            lead: None,
             notice: Notice::quiet(),
             made: 0,
+        }
+    }
+
+    // A refusal offers nothing to any link and sends nothing.
+    pub fn refused(head: Head, reply: Reply) -> Plan
+        ensures { result ≡ refused head reply }
+    {
+        Plan {
+            reply,
+            ..Plan::accepted(head, Event::Nothing)
         }
     }
 
@@ -84,12 +78,8 @@ impl Plan {
         ensures { result ≡ leaping head event made }
     {
         Plan {
-            reply: Reply::Done,
-            head,
-            event,
-            lead: Sent::Nothing,
-            notice: Notice::quiet(),
             made,
+            ..Plan::accepted(head, event)
         }
     }
 
@@ -98,12 +88,8 @@ impl Plan {
         ensures { result ≡ sending head destination body }
     {
         Plan {
-            reply: Reply::Done,
-            head,
-            event: Event::Nothing,
-            lead: Sent::To(destination, body),
-            notice: Notice::quiet(),
-            made: 0,
+            lead: Some((destination, body)),
+            ..Plan::accepted(head, Event::Nothing)
         }
     }
 
@@ -111,12 +97,8 @@ impl Plan {
         ensures { result ≡ telling head event kind link trip }
     {
         Plan {
-            reply: Reply::Done,
-            head,
-            event,
-            lead: Sent::Nothing,
             notice: Notice { kind, link, trip },
-            made: 0,
+            ..Plan::accepted(head, event)
         }
     }
 }

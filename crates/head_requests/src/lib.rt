@@ -13,31 +13,32 @@ use head_state::{Head, Window};
 use head_survey::Facts;
 use head_table::Event;
 
+#[tactic(auto, unfolding(crate::specs::Client::fits_lengths))]
 fn fits_lengths(length: Quanta, sync: Quanta) -> bool
     ensures { result ≡ fits_lengths length sync }
 {
-    length.fits() & sync.fits()
+    length.fits() && sync.fits()
 }
 
 // The grant has a start within reach and room for a REGISTER_REQ, and the window a length that it may have.
+#[tactic(auto, unfolding(crate::specs::Client::may_open))]
 fn may_open(now: Count, start: Count, length: Quanta, sync: Quanta, window: Quanta) -> bool
     ensures { result ≡ may_open now start length sync window }
 {
-    now.start_in_range(start) & (Quanta::needed(sync) <= length.0 as u64) & Window::fits(window)
+    now.start_in_range(start) && Quanta::needed(sync) <= u64::from(length.0) && Window::fits(window)
 }
 
+#[tactic(auto, unfolding(crate::specs::Client::open_of))]
 pub fn open(head: Head, start: Count, length: Quanta, sync: Quanta, window: Quanta) -> Plan
     ensures { result ≡ open_of head start length sync window }
 {
-    let now = head.count;
-    let before = head.window;
-    if !before.is_idle() {
+    if !head.window.is_idle() {
         return Plan::refused(head, Reply::State);
     }
     if !fits_lengths(length, sync) {
         return Plan::refused(head, Reply::Range);
     }
-    if !may_open(now, start, length, sync, window) {
+    if !may_open(head.count, start, length, sync, window) {
         return Plan::refused(head, Reply::Grant);
     }
     let grant = Grant {
@@ -45,17 +46,19 @@ pub fn open(head: Head, start: Count, length: Quanta, sync: Quanta, window: Quan
         length,
         force: false,
     };
-    let next = head.with_window(Window::opened(now, start, window));
+    let next = head.with_window(Window::opened(head.count, start, window));
     Plan::sending(next, Address::MULTICAST, Body::Discovery { grant, sync })
 }
 
 // Admit and reject: the address is individual and nonzero, the sync a length.
+#[tactic(auto, unfolding(crate::specs::Client::fits_party))]
 fn fits_party(address: Address, sync: Quanta) -> bool
     ensures { result ≡ fits_party address sync }
 {
-    frame_range::individual(address) & sync.fits()
+    frame_range::individual(address) && sync.fits()
 }
 
+#[tactic(auto, unfolding(crate::specs::Client::admit_of))]
 pub fn admit(head: Head, f: Facts, address: Address, pending: u8, sync: Quanta) -> Plan
     ensures { result ≡ admit_of head f address pending sync }
 {
@@ -76,6 +79,7 @@ pub fn admit(head: Head, f: Facts, address: Address, pending: u8, sync: Quanta) 
     Plan::accepted(head, Event::At(f.idle, change))
 }
 
+#[tactic(auto, unfolding(crate::specs::Client::reject_of))]
 pub fn reject(head: Head, address: Address, pending: u8, sync: Quanta) -> Plan
     ensures { result ≡ reject_of head address pending sync }
 {
@@ -91,6 +95,7 @@ pub fn reject(head: Head, address: Address, pending: u8, sync: Quanta) -> Plan
     Plan::sending(head, address, body)
 }
 
+#[tactic(auto, unfolding(crate::specs::Client::reregister_of))]
 pub fn reregister(head: Head, l: Link, link: usize, sync: Quanta) -> Plan
     ensures { result ≡ reregister_of head l link sync }
 {
@@ -106,6 +111,7 @@ pub fn reregister(head: Head, l: Link, link: usize, sync: Quanta) -> Plan
     Plan::accepted(head, Event::At(link, Change::Reregister(sync)))
 }
 
+#[tactic(auto, unfolding(crate::specs::Client::deregister_of))]
 pub fn deregister(head: Head, l: Link, link: usize) -> Plan
     ensures { result ≡ deregister_of head l link }
 {
@@ -118,6 +124,7 @@ pub fn deregister(head: Head, l: Link, link: usize) -> Plan
     Plan::accepted(head, Event::At(link, Change::Deregister))
 }
 
+#[tactic(auto, unfolding(crate::specs::Client::gate_of))]
 pub fn gate(head: Head, l: Link, link: usize, asked: Asked) -> Plan
     ensures { result ≡ gate_of head l link asked }
 {
@@ -127,8 +134,8 @@ pub fn gate(head: Head, l: Link, link: usize, asked: Asked) -> Plan
     if !asked.fits() {
         return Plan::refused(head, Reply::Range);
     }
-    if asked.number <= Asked::MOST {
-        return Plan::accepted(head, Event::At(link, Change::Gate(asked.grants())));
+    if Asked::MOST < asked.number {
+        return Plan::refused(head, Reply::Grant);
     }
-    Plan::refused(head, Reply::Grant)
+    Plan::accepted(head, Event::At(link, Change::Gate(asked.grants())))
 }

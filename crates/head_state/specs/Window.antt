@@ -1,14 +1,12 @@
 -- Rules R26, R78, R79, R160: the discovery window. Before it begins its length is kept.
 -- Assumes nothing.
-use Rattle.std.specs.Prelude.{ℕ, ◌-◌, Bool, true, false, cond, ◌&&◌, eqb, leb, ltb}
+use Rattle.std.specs.Prelude.{Option, None, Some, ℕ, ◌-◌, Bool, true, false, cond, ◌&&◌, eqb, leb, ltb}
 use Rattle.clock.specs.Counts.{reach}
 use Rattle.clock.specs.Numbers.{furthest}
 use Rattle.clock.specs.Timers.{runs, ticked, passed_of}
 use Rattle.clock.specs.declared.Count.{Count}
 use Rattle.clock.specs.declared.Quanta.{Quanta}
-use Rattle.clock.specs.declared.Reach.{Reach}
 use Rattle.clock.specs.declared.Timer.{Timer}
-use Rattle.clock.specs.declared.Reach.TheVariants.{Past, Ahead}
 use Rattle.head_state.specs.declared.Window.{Window}
 use Rattle.head_state.specs.declared.Window.TheVariants.{Idle, Before, Inside}
 
@@ -34,9 +32,9 @@ abbrev pub inside_for : Quanta → Window
 inside_for length = Inside (record { left = length.0 })
 
 -- R160: waiting; a past start is never opened
-abbrev pub opened_at : Reach → Quanta → Window
-opened_at Past length = Idle
-opened_at (Ahead wait) length = cond (eqb wait.0 0) (inside_for length) (Before (record { left = wait.0 }) length)
+abbrev pub opened_at : Option Quanta → Quanta → Window
+opened_at None length = Idle
+opened_at (Some wait) length = cond (eqb wait.0 0) (inside_for length) (Before (record { left = wait.0 }) length)
 
 unfoldable pub opened : Count → Count → Quanta → Window
 opened now start length = opened_at (reach now.0 start.0) length

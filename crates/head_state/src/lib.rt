@@ -5,7 +5,7 @@ ghost use Rattle.std.specs.Prelude.{◌≡◌};
 ghost use Rattle.head_state.specs.Head.{begun, with_window, tick_of, sound_of, after_of};
 ghost use Rattle.head_state.specs.Window.{fits, is_idle, is_inside, inside_for, opened, ticked_window, sound_window, inside_after, window_after};
 
-use clock::{Count, Quanta, Reach, Timer};
+use clock::{Count, Quanta, Timer};
 use frame::Address;
 
 // Idle, or waiting for its start with its length kept, or inside.
@@ -20,61 +20,45 @@ impl Window {
     pub const LONGEST: Quanta = Quanta(131_072);
 
     // A window's length: 1 to 131,072.
+    #[tactic(auto, unfolding(crate::specs::Window::fits))]
     pub fn fits(length: Quanta) -> bool
         ensures { result ≡ fits length }
     {
-        let longest = Window::LONGEST;
-        (1 <= length.0) & (length.0 <= longest.0)
+        1 <= length.0 && length <= Window::LONGEST
     }
 
     pub fn is_idle(self) -> bool
         ensures { result ≡ is_idle self }
     {
-        match self {
-            Window::Idle => true,
-            Window::Before {
-                timer: _,
-                length: _,
-            } => false,
-            Window::Inside { timer: _ } => false,
-        }
+        matches!(self, Window::Idle)
     }
 
     pub fn is_inside(self) -> bool
         ensures { result ≡ is_inside self }
     {
-        match self {
-            Window::Idle => false,
-            Window::Before {
-                timer: _,
-                length: _,
-            } => false,
-            Window::Inside { timer: _ } => true,
-        }
+        matches!(self, Window::Inside { .. })
     }
 
     fn inside_for(length: Quanta) -> Window
         ensures { result ≡ inside_for length }
     {
-        let stopped = Timer::stopped();
-        let timer = stopped.start(length);
-        Window::Inside { timer }
+        Window::Inside {
+            timer: Timer::stopped().start(length),
+        }
     }
 
     // The window waits the distance to its start; 0: inside at once.
+    #[tactic(auto, unfolding(crate::specs::Window::opened))]
     pub fn opened(now: Count, start: Count, length: Quanta) -> Window
         ensures { result ≡ opened now start length }
     {
         match now.reach(start) {
-            Reach::Past => Window::Idle,
-            Reach::Ahead(wait) => {
-                if wait.0 == 0 {
-                    return Window::inside_for(length);
-                }
-                let stopped = Timer::stopped();
-                let timer = stopped.start(wait);
-                Window::Before { timer, length }
-            }
+            None => Window::Idle,
+            Some(Quanta(0)) => Window::inside_for(length),
+            Some(wait) => Window::Before {
+                timer: Timer::stopped().start(wait),
+                length,
+            },
         }
     }
 
@@ -88,9 +72,8 @@ impl Window {
                 if t.rang {
                     return Window::inside_for(length);
                 }
-                let left = t.timer;
                 Window::Before {
-                    timer: left,
+                    timer: t.timer,
                     length,
                 }
             }
@@ -99,18 +82,17 @@ impl Window {
                 if t.rang {
                     return Window::Idle;
                 }
-                let left = t.timer;
-                Window::Inside { timer: left }
+                Window::Inside { timer: t.timer }
             }
         }
     }
 
     // Inside with so much left, k ticks on.
+    #[tactic(auto, unfolding(crate::specs::Window::inside_after))]
     fn inside_after(timer: Timer, k: u32) -> Window
         ensures { result ≡ inside_after timer k }
     {
-        let left = timer.left;
-        if (0 < left) & (left <= k) {
+        if 0 < timer.left && timer.left <= k {
             return Window::Idle;
         }
         Window::Inside {
@@ -119,28 +101,20 @@ impl Window {
     }
 
     // k ticks on, across its start and its end.
+    #[tactic(auto, unfolding(crate::specs::Window::before_after))]
     pub fn after(self, k: u32) -> Window
         ensures { result ≡ window_after self k }
     {
         match self {
             Window::Idle => Window::Idle,
             Window::Before { timer, length } => {
-                let left = timer.left;
-                let passed = timer.passed(k);
-                if left == 0 {
+                if timer.left == 0 || k < timer.left {
                     return Window::Before {
-                        timer: passed,
+                        timer: timer.passed(k),
                         length,
                     };
                 }
-                if left <= k {
-                    let whole = Timer::stopped().start(length);
-                    return Window::inside_after(whole, k - left);
-                }
-                Window::Before {
-                    timer: passed,
-                    length,
-                }
+                Window::inside_after(Timer::stopped().start(length), k - timer.left)
             }
             Window::Inside { timer } => Window::inside_after(timer, k),
         }
@@ -151,7 +125,7 @@ impl Window {
     {
         match self {
             Window::Idle => true,
-            Window::Before { timer, length } => timer.runs(Count::FURTHEST) & Window::fits(length),
+            Window::Before { timer, length } => timer.runs(Count::FURTHEST) && Window::fits(length),
             Window::Inside { timer } => timer.runs(Window::LONGEST),
         }
     }
@@ -169,10 +143,9 @@ impl Head {
     pub fn begun(address: Address) -> Head
         ensures { result ≡ begun address }
     {
-        let count = Count(0);
         Head {
             address,
-            count,
+            count: Count(0),
             window: Window::Idle,
         }
     }
@@ -180,26 +153,17 @@ impl Head {
     pub fn with_window(self, window: Window) -> Head
         ensures { result ≡ with_window self window }
     {
-        let address = self.address;
-        let count = self.count;
-        Head {
-            address,
-            count,
-            window,
-        }
+        Head { window, ..self }
     }
 
     // The count, then the window.
     pub fn tick(self) -> Head
         ensures { result ≡ tick_of self }
     {
-        let address = self.address;
-        let now = self.count;
-        let before = self.window;
         Head {
-            address,
-            count: now.next(),
-            window: before.tick(),
+            count: self.count.next(),
+            window: self.window.tick(),
+            ..self
         }
     }
 
@@ -207,21 +171,17 @@ impl Head {
     pub fn after(self, k: u32) -> Head
         ensures { result ≡ after_of self k }
     {
-        let address = self.address;
-        let now = self.count;
-        let before = self.window;
         Head {
-            address,
-            count: now.later(k),
-            window: before.after(k),
+            count: self.count.later(k),
+            window: self.window.after(k),
+            ..self
         }
     }
 
+    #[tactic(auto, unfolding(crate::specs::Head::sound_of))]
     pub fn sound(self) -> bool
         ensures { result ≡ sound_of self }
     {
-        let address = self.address;
-        let window = self.window;
-        frame_range::individual(address) & window.sound()
+        frame_range::individual(self.address) && self.window.sound()
     }
 }

@@ -7,36 +7,29 @@ use mathlib.Core.List.{List, [], ◌∷◌, ◌++◌}
 use native.Mathlib.Omega.{arith}
 use borrow.Author.Tests.{eq-eqb, ne_eqb, eqb-true, eqb-false}
 use lib.Dec.{eqb}
-use lib.ListN.{length, take, length-append}
-use lib.Seq.{take-length, take-append_seam}
+use lib.ListN.{length, length-append}
+use lib.Seq.{take-append_seam}
+use Rattle.std.proofs.Math.Bool.{or_assoc, or-false, and_comm}
+use Rattle.std.proofs.lemmas.List.{append_assoc}
 use Rattle.clock.specs.Numbers.{furthest_advance}
 use Rattle.frame.specs.declared.Address.{Address}
 use Rattle.lent.specs.Folds.{each}
+use Rattle.std.specs.List.{list_any}
 use Rattle.head_links.specs.Link.{idle, is_held}
 use Rattle.head_links.specs.Sound.{sound_of}
 use Rattle.head_links.specs.declared.Link.{Link}
 use Rattle.head_survey.specs.Facts.{is_few, holds, any_holds, are_all_sound, different, sound_table, idle_from, link_from, quiet_all, facts_of}
-use Rattle.head_survey.specs.Pass.{turns_of, begun, met_of, repeats_of, twice_of, sound_still, held_still, idle_still, link_still, quiet_still, passed}
+use Rattle.head_survey.specs.Pass.{begun, twice_of, sound_still, held_still, idle_still, link_still, quiet_still, passed}
 use Rattle.head_survey.specs.declared.Look.{Look}
 use Rattle.head_survey.specs.declared.Facts.{Facts}
 
 -- ---- tests
-or_assoc : (a b c : Bool) → ((a || b) || c) ≡ (a || (b || c))
-or_assoc true b c = refl
-or_assoc false b c = refl
-
 eqb_swap : (a b : ℕ) → eqb a b ≡ eqb b a
 eqb_swap a b = by-test (eqb a b) refl
   where
     by-test : (t : Bool) → eqb a b ≡ t → t ≡ eqb b a
     by-test true e = sym (eq-eqb b a (sym (eqb-true a b e)))
     by-test false e = sym (ne_eqb b a (λ p. eqb-false a b e (sym p)))
-
-and-swap : (a b : Bool) → (a && b) ≡ (b && a)
-and-swap true true = refl
-and-swap true false = refl
-and-swap false true = refl
-and-swap false false = refl
 
 and_in : (a b c : Bool) → (a && (b && c)) ≡ (b && (a && c))
 and_in true true c = refl
@@ -68,21 +61,11 @@ gather true true true true true q d = refl
 -- ---- addresses
 any-more : (a : Address) (pre : List Link) (x : Link) → any_holds a (pre ++ (x ∷ [])) ≡ (any_holds a pre || holds a x)
 any-more a [] x = or-false (holds a x)
-  where
-    or-false : (t : Bool) → (t || false) ≡ t
-    or-false true = refl
-    or-false false = refl
 any-more a (y ∷ pre) x = ap (λ (t : Bool). holds a y || t) (any-more a pre x) ∙ sym (or_assoc (holds a y) (any_holds a pre) (holds a x))
 
-met-any : (a : Address) (k : ℕ) (xs : List Link) (met : Bool) → each (λ j l m. met_of a l m) k xs met ≡ (met || any_holds a xs)
-unfolding each
-met-any a k [] true = refl
-met-any a k [] false = refl
-met-any a k (x ∷ xs) met = met-any a (suc k) xs (met || holds a x) ∙ or_assoc met (holds a x) (any_holds a xs)
-
-pub repeats-is : (xs : List Link) (n : ℕ) (a : Address) → repeats_of xs n a ≡ any_holds a (take n xs)
-unfolding repeats_of
-repeats-is xs n a = met-any a 1 (take n xs) false
+pub any-is : (a : Address) (xs : List Link) → list_any (holds a) xs ≡ any_holds a xs
+any-is a [] = refl
+any-is a (x ∷ xs) = ap (λ (t : Bool). holds a x || t) (any-is a xs)
 
 -- none of xs is held at an address that one of pre holds
 apart : List Link → List Link → Bool
@@ -92,7 +75,7 @@ apart pre (x ∷ xs) = not (is_held x.state && any_holds x.address pre) && apart
 apart_none : (xs : List Link) → apart [] xs ≡ true
 unfolding apart
 apart_none [] = refl
-apart_none (x ∷ xs) = ap (λ (t : Bool). not t && apart [] xs) (and-swap (is_held x.state) false) ∙ apart_none xs
+apart_none (x ∷ xs) = ap (λ (t : Bool). not t && apart [] xs) (and_comm (is_held x.state) false) ∙ apart_none xs
 
 meet-swap : (x y : Link) → (is_held y.state && holds y.address x) ≡ (is_held x.state && holds x.address y)
 unfolding holds
@@ -102,7 +85,7 @@ meet-swap x y =
 
 apart_more : (pre : List Link) (x : Link) (ys : List Link) → apart (pre ++ (x ∷ [])) ys ≡ (apart pre ys && not (is_held x.state && any_holds x.address ys))
 unfolding apart
-apart_more pre x [] = sym (ap not (and-swap (is_held x.state) false))
+apart_more pre x [] = sym (ap not (and_comm (is_held x.state) false))
 apart_more pre x (y ∷ ys) =
     ap (λ (t : Bool). not (is_held y.state && t) && apart (pre ++ (x ∷ [])) ys) (any-more y.address pre x)
     ∙ ap (λ (t : Bool). t && apart (pre ++ (x ∷ [])) ys) (neither (is_held y.state) (any_holds y.address pre) (holds y.address x))
@@ -185,17 +168,13 @@ link-is asked k (x ∷ xs) = by-test (link-is asked (suc k) xs) (eqb k asked) re
     by-test rest true e = link-past asked (suc k) xs x (omega (arith, eqb-true k asked e))
     by-test rest false e = rest
 
-app_assoc : (pre : List Link) (x : Link) (xs : List Link) → ((pre ++ (x ∷ [])) ++ xs) ≡ (pre ++ (x ∷ xs))
-app_assoc [] x xs = refl
-app_assoc (y ∷ pre) x xs = ap (λ (t : List Link). y ∷ t) (app_assoc pre x xs)
-
 sound-is : (pre xs : List Link) (s : Bool) → sound_run (pre ++ xs) (suc (length pre)) xs s ≡ (s && (are_all_sound xs && (apart pre xs && different xs)))
 unfolding sound_run apart
 sound-is pre [] true = refl
 sound-is pre [] false = refl
 sound-is pre (x ∷ xs) s =
     ap (λ (t : Bool). sound_run (pre ++ (x ∷ xs)) (suc (suc (length pre))) xs (s && sound_of x && not t)) seen
-    ∙ ap (λ (zs : List Link). sound_run zs (suc (suc (length pre))) xs (s && sound_of x && not met)) (sym (app_assoc pre x xs))
+    ∙ ap (λ (zs : List Link). sound_run zs (suc (suc (length pre))) xs (s && sound_of x && not met)) (sym (append_assoc pre (x ∷ []) xs))
     ∙ ap (λ (k : ℕ). sound_run ((pre ++ (x ∷ [])) ++ xs) (suc k) xs (s && sound_of x && not met)) longer
     ∙ sound-is (pre ++ (x ∷ [])) xs (s && sound_of x && not met)
     ∙ ap (λ (t : Bool). (s && sound_of x && not met) && (are_all_sound xs && (t && different xs))) (apart_more pre x xs)
@@ -244,23 +223,10 @@ whole xs look s =
     by_parts xs look 1 xs (record { sound = s; held = false; idle = 0; link = idle; quiet = furthest_advance })
     ∙ rw (sound-is [] xs s, apart_none xs, held-is look.address xs false, idle-is 0 xs 0, link-is look.link 1 xs, quiet-whole xs)
 
-pub passed-all : (xs : List Link) (look : Look) → each (passed xs look) 1 (take (turns_of (length xs)) xs) (begun (length xs)) ≡ facts_of xs look
-unfolding turns_of facts_of sound_table each
-passed-all xs look = by-test (is_few (length xs)) refl
-  where
-    by-test : (t : Bool) → is_few (length xs) ≡ t → each (passed xs look) 1 (take (cond t (length xs) 0) xs) (record { sound = t; held = false; idle = 0; link = idle; quiet = furthest_advance })
-        ≡ cond t (record { sound = t && are_all_sound xs && different xs; held = any_holds look.address xs; idle = idle_from 1 xs; link = link_from look.link 1 xs; quiet = quiet_all xs }) (record { sound = false; held = false; idle = 0; link = idle; quiet = furthest_advance })
-    by-test true e = ap (λ (ys : List Link). each (passed xs look) 1 ys (record { sound = true; held = false; idle = 0; link = idle; quiet = furthest_advance })) (take-length xs) ∙ whole xs look true
-    by-test false e = none xs
-      where
-        none : (ys : List Link) → each (passed xs look) 1 (take 0 ys) (record { sound = false; held = false; idle = 0; link = idle; quiet = furthest_advance }) ≡ record { sound = false; held = false; idle = 0; link = idle; quiet = furthest_advance }
-        none [] = refl
-        none (y ∷ ys) = refl
+pub passed-all : (xs : List Link) (look : Look) → is_few (length xs) ≡ true → each (passed xs look) 1 xs (begun (length xs)) ≡ facts_of xs look
+unfolding facts_of sound_table
+passed-all xs look e = whole xs look (is_few (length xs)) ∙ rw e refl
 
-pub turns-le : (n : ℕ) → turns_of n ≤ n
-unfolding turns_of
-turns-le n = by-test (is_few n)
-  where
-    by-test : (t : Bool) → cond t n 0 ≤ n
-    by-test true = omega arith
-    by-test false = omega arith
+pub passed_none : (xs : List Link) (look : Look) → is_few (length xs) ≡ false → begun (length xs) ≡ facts_of xs look
+unfolding facts_of
+passed_none xs look e = rw e refl

@@ -1,10 +1,10 @@
 -- Code: the pass over the table, link by link; `proofs/Page.antt` shows that it finds what `Facts` says, and `proofs/Marks.antt` that the marks
 -- hide no address that is held twice.
 -- Assumes nothing.
-use Rattle.std.specs.Prelude.{ℕ, ◌-◌, ◌%◌, min, Bool, false, cond, not, ◌&&◌, ◌||◌, List, eqb, get_or, set, take, replicate}
+use Rattle.std.specs.Prelude.{ℕ, ◌-◌, ◌%◌, min, Bool, true, false, cond, not, ◌&&◌, ◌||◌, List, eqb, get_or, set, take, replicate}
+use Rattle.std.specs.List.{list_any}
 use Rattle.clock.specs.Numbers.{furthest_advance}
 use Rattle.frame.specs.declared.Address.{Address}
-use Rattle.lent.specs.Folds.{each}
 use Rattle.head_links.specs.Link.{idle, is_held}
 use Rattle.head_links.specs.Pass.{quiet_of}
 use Rattle.head_links.specs.Sound.{sound_of}
@@ -13,38 +13,27 @@ use Rattle.head_survey.specs.Facts.{is_few, holds, any_holds}
 use Rattle.head_survey.specs.declared.Look.{Look}
 use Rattle.head_survey.specs.declared.Facts.{Facts}
 
--- a table of no allowed size is not gone through
-unfoldable pub turns_of : ℕ → ℕ
-turns_of n = cond (is_few n) n 0
-
 abbrev pub begun : ℕ → Facts
 begun n = record { sound = is_few n; held = false; idle = 0; link = idle; quiet = furthest_advance }
-
-abbrev pub met_of : Address → Link → Bool → Bool
-met_of a l met = met || holds a l
-
--- one of the first n holds the address
-unfoldable pub repeats_of : List Link → ℕ → Address → Bool
-repeats_of xs n a = each (λ k l met. met_of a l met) 1 (take n xs) false
 
 -- where the mark of an address stands, of 251
 unfoldable pub place_of : Address → ℕ
 place_of a = a.0 % 251
 
 -- no link has left its mark
-unfoldable pub unmarked : List ℕ
-unmarked = replicate 251 0
+unfoldable pub unmarked : List Bool
+unmarked = replicate 251 false
 
-unfoldable pub is_marked : List ℕ → Address → Bool
-is_marked ms a = eqb (get_or ms (place_of a) 0) 1
+unfoldable pub is_marked : List Bool → Address → Bool
+is_marked ms a = get_or ms (place_of a) false
 
 -- a held link leaves the mark of its address
-unfoldable pub mark_of : Link → List ℕ → List ℕ
-mark_of l ms = cond (is_held l.state) (set ms (place_of l.address) 1) ms
+unfoldable pub mark_of : Link → List Bool → List Bool
+mark_of l ms = cond (is_held l.state) (set ms (place_of l.address) true) ms
 
--- how many links stand before it that could hold its address
-unfoldable pub span_of : List ℕ → Link → ℕ → ℕ
-span_of ms l i = cond (is_held l.state && is_marked ms l.address) i 0
+-- a held link whose place has a mark, and one before it holds the address
+unfoldable pub sought_of : List Bool → List Link → Link → Bool
+sought_of ms before l = is_held l.state && (is_marked ms l.address && list_any (holds l.address) before)
 
 -- a held link whose address one of the first i holds
 abbrev pub twice_of : List Link → Link → ℕ → Bool

@@ -1,9 +1,10 @@
 // One pass over the lent table that changes nothing: whether it is sound, and what a call asks of it.
 #![tactic(auto)]
 
-ghost use Rattle.std.specs.Prelude.{◌≡◌, ◌≤◌, length};
+ghost use Rattle.std.specs.Prelude.{◌≡◌};
+ghost use Rattle.std.specs.List.{list_any};
 ghost use Rattle.head_survey.specs.Facts.{is_few, holds, facts_of};
-ghost use Rattle.head_survey.specs.Pass.{turns_of, begun, place_of, span_of, mark_of, met_of, repeats_of, sound_still, held_still, idle_still, link_still, quiet_still, seen_of};
+ghost use Rattle.head_survey.specs.Pass.{begun, place_of, sought_of, mark_of, seen_of};
 
 use clock::Timer;
 use frame::Address;
@@ -27,20 +28,11 @@ pub struct Facts {
 }
 
 // A table has 1 to 64 links.
+#[tactic(auto, unfolding(crate::specs::Facts::is_few))]
 pub fn is_few(n: usize) -> bool
     ensures { result ≡ is_few n }
 {
-    (1 <= n) & (n <= Link::MOST)
-}
-
-// A table of no allowed size is not gone through.
-fn turns(n: usize) -> usize
-    ensures { result ≡ turns_of n }
-{
-    if is_few(n) {
-        return n;
-    }
-    0
+    1 <= n && n <= Link::MOST
 }
 
 fn begin(n: usize) -> Facts
@@ -55,133 +47,77 @@ fn begin(n: usize) -> Facts
     }
 }
 
+#[tactic(auto, unfolding(crate::specs::Facts::holds))]
 fn holds(l: Link, address: Address) -> bool
     ensures { result ≡ holds address l }
 {
-    let own = l.address;
-    l.is_held() & (own.0 == address.0)
+    l.is_held() & (l.address == address)
 }
 
-fn meets(met: bool, l: Link, address: Address) -> bool
-    ensures { result ≡ met_of address l met }
+// One of these links holds the address.
+fn any_holds(links: &[Link], address: Address) -> bool
+    ensures { result ≡ list_any (holds address) links.now }
 {
-    met | holds(l, address)
-}
-
-// One of the first n links holds the address.
-fn repeats(links: &[Link], n: usize, address: Address) -> bool
-    requires { n ≤ length links.now }
-    ensures { result ≡ repeats_of links.now n address }
-{
-    let mut met = false;
-    let mut i = 0;
-    while i < n {
-        met = meets(met, links[i], address);
-        i += 1;
-    }
-    met
+    links.iter().any(|l| holds(*l, address))
 }
 
 // A prime: addresses at equal distances, as boxes of one building often have, stand at places of their own unless it divides the distance.
 const PLACES: usize = 251;
 
 // Where the mark of its address stands.
+#[tactic(auto, unfolding(crate::specs::Pass::place_of))]
 fn place(l: Link) -> usize
     ensures { result ≡ place_of l.address }
 {
-    let own = l.address;
-    own.0 as usize % PLACES
+    l.address.0 as usize % PLACES
 }
 
-// How many links stand before it that could hold its address: none before one that holds nothing, and none where no mark stands at its place. A held link leaves a mark there.
-fn span(marks: &mut [u8], l: Link, i: usize) -> usize
-    requires { length marks.old ≡ 251 }
-    ensures { (result ≡ span_of marks.old l i) × (marks.new ≡ mark_of l marks.old) }
+// Whether one of the links before it holds its address, too: they are searched only where a mark stands at its place. A held link leaves a mark there.
+#[tactic(auto, using(crate::proofs::Marks::place_lt), unfolding(crate::specs::Pass::sought_of, crate::specs::Pass::is_marked, crate::specs::Pass::mark_of))]
+fn is_twice(marks: &mut [bool; PLACES], before: &[Link], l: Link) -> bool
+    ensures { (result ≡ sought_of marks.old before.now l) × (marks.new ≡ mark_of l marks.old) }
 {
-    if l.is_held() {
-        let k = place(l);
-        let met = marks[k];
-        marks[k] = 1;
-        if met == 1 {
-            return i;
+    if !l.is_held() {
+        return false;
+    }
+    let k = place(l);
+    let met = marks[k];
+    marks[k] = true;
+    met && any_holds(before, l.address)
+}
+
+impl Facts {
+    // The link of that number is seen, too; twice: its address is held before.
+    #[tactic(auto, unfolding(crate::specs::Pass::idle_still, crate::specs::Pass::link_still))]
+    fn seen(self, l: Link, number: usize, twice: bool, look: Look) -> Facts
+        ensures { result ≡ seen_of self l number twice look }
+    {
+        let mut f = self;
+        f.sound = self.sound & l.sound() & !twice;
+        f.held = self.held | holds(l, look.address);
+        f.quiet = self.quiet.min(l.quiet());
+        if self.idle == 0 && !l.is_held() {
+            f.idle = number;
         }
-    }
-    0
-}
-
-fn address_of(l: Link) -> Address
-    ensures { result ≡ l.address }
-{
-    l.address
-}
-
-fn sound_still(sound: bool, l: Link, twice: bool) -> bool
-    ensures { result ≡ sound_still sound l twice }
-{
-    sound & l.sound() & !twice
-}
-
-fn held_still(held: bool, l: Link, address: Address) -> bool
-    ensures { result ≡ held_still held l address }
-{
-    held | holds(l, address)
-}
-
-fn idle_still(idle: usize, l: Link, number: usize) -> usize
-    ensures { result ≡ idle_still idle l number }
-{
-    if (idle == 0) & !l.is_held() {
-        return number;
-    }
-    idle
-}
-
-fn link_still(found: Link, l: Link, number: usize, asked: usize) -> Link
-    ensures { result ≡ link_still found l number asked }
-{
-    if number == asked {
-        return l;
-    }
-    found
-}
-
-fn quiet_still(quiet: u32, l: Link) -> u32
-    ensures { result ≡ quiet_still quiet l }
-{
-    clock::least(quiet, l.quiet())
-}
-
-fn seen(f: Facts, l: Link, number: usize, twice: bool, look: Look) -> Facts
-    ensures { result ≡ seen_of f l number twice look }
-{
-    let address = look.address;
-    let found = f.link;
-    Facts {
-        sound: sound_still(f.sound, l, twice),
-        held: held_still(f.held, l, address),
-        idle: idle_still(f.idle, l, number),
-        link: link_still(found, l, number, look.link),
-        quiet: quiet_still(f.quiet, l),
+        if number == look.link {
+            f.link = l;
+        }
+        f
     }
 }
 
+// A table of no allowed size is not gone through.
 pub fn survey(links: &[Link], look: Look) -> Facts
     ensures { result ≡ facts_of links.now look }
 {
-    let n = turns(links.len());
     let mut f = begin(links.len());
-    let mut marks = [0u8; PLACES];
-    let mut i = 0;
-    while i < n {
-        let l = links[i];
-        f = seen(
-            f,
-            l,
-            i + 1,
-            repeats(links, span(&mut marks, l, i), address_of(l)),
-            look,
-        );
-        i += 1;
+    if !f.sound {
+        return f;
+    }
+    let mut marks = [false; PLACES];
+    for (i, l) in links.iter().enumerate() {
+        let twice = is_twice(&mut marks, &links[..i], *l);
+        f = f.seen(*l, i + 1, twice, look);
     }
     f
 }

@@ -1,15 +1,17 @@
 -- What the turns that are taken leave is what all of them would: an event that is nothing changes no link and sends no frame.
 -- Assumes nothing.
+use Rattle.std.proofs.Common.{Option}
 use Prim.Native.Nat.{ℕ, ◌+◌, ◌<◌, ◌≤◌}
 use native.Mathlib.Numerals.{add-one}
 use mathlib.Core.Path.{◌≡◌, refl, sym, ap, ◌∙◌}
 use mathlib.Core.List.{List}
 use lib.ListN.{length, get_or, set}
+use Rattle.frame.specs.declared.Address.{Address}
+use Rattle.frame.specs.declared.Body.{Body}
 use Rattle.lent.specs.Folds.{each, places}
 use Rattle.lent.specs.Laws.{places-still, each-still}
 use Rattle.lent.proofs.Folds.{up_to, up_at, up_more, up-all, up-still, fold_to, fold_more, fold-all, fold-still}
 use Rattle.head_links.specs.Link.{idle}
-use Rattle.head_links.specs.declared.Sent.{Sent}
 use Rattle.head_links.specs.declared.Link.{Link}
 use Rattle.head_table.specs.Events.{react_of, reacted, turns_of}
 use Rattle.head_table.specs.Output.{Output, note_of, note_link}
@@ -47,11 +49,11 @@ module _ (e : Event) (xs : List Link) (i : ℕ) (l : i < length xs) where
       ∙ up_more (reacted e) 1 xs i idle l
       ∙ ap (λ (j : ℕ). up_to (reacted e) 1 xs j) (sym (add-one i))
 
-  pub sent_more : (ys : List Link) (s : Sender) (b st st' : Output) (x : Sent) → ys ≡ up_to (reacted e) 1 xs i → st ≡ fold_to (note_link e s) 1 xs i b
+  pub sent_more : (ys : List Link) (s : Sender) (b st st' : Output) (x : Option (Address × Body)) → ys ≡ up_to (reacted e) 1 xs i → st ≡ fold_to (note_link e s) 1 xs i b
       → x ≡ (react_of e (get_or ys i idle) (i + 1)).sent → st' ≡ note_of s st x → st' ≡ fold_to (note_link e s) 1 xs (i + 1) b
   sent_more ys s b st st' x p q r h =
       h
-      ∙ ap (λ (y : Sent). note_of s st y) (r ∙ ap (λ (y : Link). (react_of e y (i + 1)).sent) (met ys p))
+      ∙ ap (λ (y : Option (Address × Body)). note_of s st y) (r ∙ ap (λ (y : Link). (react_of e y (i + 1)).sent) (met ys p))
       ∙ ap (λ (u : Output). note_link e s (i + 1) (get_or xs i idle) u) q
       ∙ fold_more (note_link e s) 1 xs i idle b l
       ∙ ap (λ (j : ℕ). fold_to (note_link e s) 1 xs j b) (sym (add-one i))

@@ -1,8 +1,9 @@
 -- Lemmas: what the output keeps: its length, and a number of frames that a machine word holds; and which events need no turn.
 -- Assumes nothing.
-use Rattle.std.specs.Prelude.{ℕ, zero, suc, ◌+◌, ◌*◌, ◌/◌, ◌^◌, ◌<◌, ◌≤◌, ◌≡◌, refl, List, [], ◌∷◌, ltb, length}
+use Rattle.std.specs.Prelude.{Option, None, Some, ℕ, zero, suc, ◌+◌, ◌*◌, ◌/◌, ◌^◌, ◌<◌, ◌≤◌, ◌≡◌, refl, List, [], ◌∷◌, ltb, length}
 use Rattle.std.proofs.Common.{ap, ◌∙◌, arith, not-suc-le-zero, ltb-true, length-append, length-drop, length-take}
 use Rattle.std.proofs.lemmas.List.{length-replicate}
+use Rattle.frame.specs.declared.Address.{Address}
 use Rattle.laws.specs.Cases.{either}
 use Rattle.octets.specs.Octets.{onto}
 use Rattle.frame_range.specs.Fits.{fits_message}
@@ -15,8 +16,6 @@ use Rattle.frame.specs.declared.Message.{Message}
 use Rattle.frame.specs.declared.Writing.{Writing}
 use Rattle.octets.specs.Over.{over}
 use Rattle.frame_writer.specs.Write.{write_of}
-use Rattle.head_links.specs.declared.Sent.{Sent}
-use Rattle.head_links.specs.declared.Sent.TheVariants.{Nothing, To}
 use Rattle.head_table.specs.Events.{turns_of}
 use Rattle.head_table.specs.Output.{Output, output, pasted, message_of, note_of}
 use Rattle.head_table.specs.declared.Event.{Event}
@@ -71,9 +70,9 @@ pasted-fine m g st f e p =
           long = over-long (st.frames * 60) st.octets f (omega (arith, l, e)) ∙ p.long;
         }
 
-pub note-fine : (m : ℕ) → m < 2 ^ 64 → (s : Sender) (st : Output) (x : Sent) → Fine m st → Fine m (note_of s st x)
-note-fine m g s st Nothing p = p
-note-fine m g s st (To a body) p = pasted-fine m g st (write_of (message_of s a body)).octets (written-sixty (message_of s a body)) p
+pub note-fine : (m : ℕ) → m < 2 ^ 64 → (s : Sender) (st : Output) (x : Option (Address × Body)) → Fine m st → Fine m (note_of s st x)
+note-fine m g s st None p = p
+note-fine m g s st (Some (a, body)) p = pasted-fine m g st (write_of (message_of s a body)).octets (written-sixty (message_of s a body)) p
 
 pub turns-le : (e : Event) (n : ℕ) → turns_of e n ≤ n
 turns-le Event.Nothing n = omega arith

@@ -1,14 +1,12 @@
 -- Rules R147, R149: the frames of a call, and where they stand in the output.
 -- Assumes nothing.
-use Rattle.std.specs.Prelude.{ℕ, ◌+◌, ◌*◌, ◌/◌, cond, List, ltb, length}
+use Rattle.std.specs.Prelude.{Option, None, Some, ℕ, ◌+◌, ◌*◌, ◌/◌, cond, List, ltb, length}
 use Rattle.frame.specs.declared.Address.{Address}
 use Rattle.frame.specs.declared.Body.{Body}
 use Rattle.frame.specs.declared.Message.{Message}
 use Rattle.octets.specs.Over.{over}
 use Rattle.frame_writer.specs.Write.{write_of}
 use Rattle.head_links.specs.declared.Link.{Link}
-use Rattle.head_links.specs.declared.Sent.{Sent}
-use Rattle.head_links.specs.declared.Sent.TheVariants.{Nothing, To}
 use Rattle.head_table.specs.Events.{react_of}
 use Rattle.head_table.specs.declared.Event.{Event}
 use Rattle.head_table.specs.declared.Sender.{Sender}
@@ -32,9 +30,9 @@ pasted st f =
 abbrev pub message_of : Sender → Address → Body → Message
 message_of s to body = record { destination = to; source = s.source; timestamp = s.timestamp; body = body }
 
-abbrev pub note_of : Sender → Output → Sent → Output
-note_of s st Nothing = st
-note_of s st (To a body) = pasted st (write_of (message_of s a body)).octets
+abbrev pub note_of : Sender → Output → Option (Address × Body) → Output
+note_of s st None = st
+note_of s st (Some (a, body)) = pasted st (write_of (message_of s a body)).octets
 
 -- the output after what the link of that number sends
 abbrev pub note_link : Event → Sender → ℕ → Link → Output → Output

@@ -8,8 +8,8 @@ ghost use Rattle.head_table.specs.Events.{port_of, react_of, driven_of, turns_of
 ghost use Rattle.head_table.specs.Output.{output, pasted, note_of, note_link};
 
 use clock::Count;
-use frame::{Address, Message};
-use head_links::{Change, Link, Sent, Stepped};
+use frame::{Address, Body, Message};
+use head_links::{Change, Link, Stepped};
 
 // What is offered to every link in order.
 #[derive(Clone, Copy)]
@@ -45,12 +45,8 @@ fn react(l: Link, number: usize, event: Event) -> Stepped
         Event::Clear => Stepped::still(Link::idle()),
         Event::Tick => l.tick(port(number)),
         Event::Leap(k) => l.passed(k).tick(port(number)),
-        Event::At(k, change) => {
-            if k == number {
-                return l.change(port(number), change);
-            }
-            Stepped::still(l)
-        }
+        Event::At(k, change) if k == number => l.change(port(number), change),
+        Event::At(_, _) => Stepped::still(l),
     }
 }
 
@@ -60,54 +56,26 @@ fn paste(out: &mut [u8], n: usize, frame: [u8; 60]) -> usize
 {
     if n < out.len() / Message::OCTETS {
         let a = n * Message::OCTETS;
-        let e = a + Message::OCTETS;
-        out[a..e].copy_from_slice(&frame);
+        out[a..a + Message::OCTETS].copy_from_slice(&frame);
         return n + 1;
     }
     n
 }
 
 // What is sent, if anything, as the next frame: how many there are then.
-pub fn note(out: &mut [u8], n: usize, sender: Sender, sent: Sent) -> usize
+pub fn note(out: &mut [u8], n: usize, sender: Sender, sent: Option<(Address, Body)>) -> usize
     ensures { (result ≡ (note_of sender (output out.old n) sent).frames) × (out.new ≡ (note_of sender (output out.old n) sent).octets) }
 {
-    match sent {
-        Sent::Nothing => n,
-        Sent::To(destination, body) => {
-            let source = sender.source;
-            let timestamp = sender.timestamp;
-            let message = Message {
-                destination,
-                source,
-                timestamp,
-                body,
-            };
-            let written = frame_writer::write(message);
-            let octets = written.octets;
-            paste(out, n, octets)
-        }
-    }
-}
-
-fn link_of(t: Stepped) -> Link
-    ensures { result ≡ t.link }
-{
-    t.link
-}
-
-fn sent_of(t: Stepped) -> Sent
-    ensures { result ≡ t.sent }
-{
-    t.sent
-}
-
-fn step(links: &mut [Link], i: usize, event: Event) -> Sent
-    requires { i < length links.old }
-    ensures { (links.new ≡ set links.old i (react_of event (get_or links.old i idle) (i + 1)).link) × (result ≡ (react_of event (get_or links.old i idle) (i + 1)).sent) }
-{
-    let t = react(links[i], i + 1, event);
-    links[i] = link_of(t);
-    sent_of(t)
+    let Some((destination, body)) = sent else {
+        return n;
+    };
+    let message = Message {
+        destination,
+        source: sender.source,
+        timestamp: sender.timestamp,
+        body,
+    };
+    paste(out, n, frame_writer::write(message).octets)
 }
 
 // Nothing is offered to no link.
@@ -116,10 +84,7 @@ fn turns(event: Event, n: usize) -> usize
 {
     match event {
         Event::Nothing => 0,
-        Event::Clear => n,
-        Event::Tick => n,
-        Event::Leap(_) => n,
-        Event::At(_, _) => n,
+        _ => n,
     }
 }
 
@@ -127,14 +92,16 @@ fn turns(event: Event, n: usize) -> usize
 pub fn drive(links: &mut [Link], event: Event, sender: Sender, out: &mut [u8], n: usize) -> usize
     ensures { (links.new ≡ driven_of event links.old) × (output out.new result ≡ each (note_link event sender) 1 links.old (output out.old n)) }
 {
-    let most = turns(event, links.len());
-    let mut a = n;
-    let mut i = 0;
-    while i < most {
-        a = note(out, a, sender, step(links, i, event));
-        i += 1;
+    if turns(event, links.len()) == 0 {
+        return n;
     }
-    a
+    let mut frames = n;
+    for (i, l) in links.iter_mut().enumerate() {
+        let t = react(*l, i + 1, event);
+        *l = t.link;
+        frames = note(out, frames, sender, t.sent);
+    }
+    frames
 }
 
 // The event is offered to every link, and nothing is sent: how many links it was offered to.
@@ -142,10 +109,11 @@ pub fn offer(links: &mut [Link], event: Event) -> usize
     ensures { (links.new ≡ driven_of event links.old) × (result ≡ turns_of event (length links.old)) }
 {
     let most = turns(event, links.len());
-    let mut i = 0;
-    while i < most {
-        step(links, i, event);
-        i += 1;
+    if most == 0 {
+        return 0;
+    }
+    for (i, l) in links.iter_mut().enumerate() {
+        *l = react(*l, i + 1, event).link;
     }
     most
 }

@@ -1,10 +1,12 @@
 -- Demand 3 at the head, of one link: what a change or a tick makes of its watchdog and its wait, and what it sends to the box.
 -- Assumes nothing.
+use Rattle.std.proofs.Common.{Option, None, Some}
 use Prim.Native.Nat.{ℕ, zero, suc, ◌+◌, ◌≤◌}
 use mathlib.Core.Path.{◌≡◌, refl, sym, ap, subst, ◌∙◌}
 use mathlib.Core.Bool.{Bool, true, false, true≢false, false≢true}
 use mathlib.Core.Logic.{⊎_elim}
 use native.Mathlib.Omega.{arith}
+use Rattle.frame.specs.declared.Body.{Body}
 use Rattle.laws.specs.Cases.{either}
 use Rattle.clock.specs.Laws.{runs-in, ticked-rings}
 use Rattle.clock.specs.Numbers.{watchdog, wait}
@@ -18,8 +20,6 @@ use Rattle.head_links.specs.Steps.{still, deregistered, gated, change_of}
 use Rattle.head_links.specs.Tick.{tick_in, tick_of}
 use Rattle.head_links.specs.declared.Change.{Change}
 use Rattle.head_links.specs.declared.Link.{Link}
-use Rattle.head_links.specs.declared.Sent.{Sent}
-use Rattle.head_links.specs.declared.Sent.TheVariants.{Nothing, To}
 use Rattle.head_links.specs.declared.State.{State}
 use Rattle.head_links.specs.declared.State.TheVariants.{Idle, Waiting, Registered}
 use Rattle.head_links.specs.declared.Stepped.{Stepped}
@@ -41,9 +41,9 @@ idle-waiting e = false≢true (ap is_held e)
 
 module _ (A : Address) where
   -- a frame that restarts no watchdog at A
-  abbrev pub Quiet : Sent → Type 0
-  Quiet Nothing = Unit {0}
-  Quiet (To a body) = a ≡ A → restarts_box body ≡ false
+  abbrev pub Quiet : Option (Address × Body) → Type 0
+  Quiet None = Unit {0}
+  Quiet (Some (a, body)) = a ≡ A → restarts_box body ≡ false
 
   -- m in the place of l: a registered link was registered, and neither timer has more ticks left than before, less the loss
   pub record Falls (loss : ℕ) (kept : Bool) (l m : Link) : Type 0 where
@@ -142,8 +142,8 @@ module _ (A : Address) where
             };
         quiet =
             λ k.
-            ⊎_elim (λ (s : x.sent ≡ Nothing). subst Quiet (sym s) tt)
-            (λ (s : x.sent ≡ To l.address (Gate None)).
+            ⊎_elim (λ (s : x.sent ≡ None). subst Quiet (sym s) tt)
+            (λ (s : x.sent ≡ Some (l.address, Gate None)).
             subst Quiet (sym s) (λ q. absurd (k (ap is_held t.state, t.address ∙ q))))
             t.sent;
       }

@@ -1,6 +1,7 @@
 -- Demand 3 at the head, of a table: where every link behaves, the link of each number falls, and a table that holds no link for A sends it
 -- nothing that restarts its watchdog.
 -- Assumes nothing.
+use Rattle.std.proofs.Common.{Option, None, Some}
 use Prim.Native.Nat.{ℕ, suc}
 use mathlib.Core.Path.{◌≡◌, refl, sym, ap}
 use mathlib.Core.Bool.{Bool, true, false, cond, ◌&&◌}
@@ -16,8 +17,6 @@ use Rattle.lent.specs.Folds.{places}
 use Rattle.head_links.specs.Link.{idle}
 use Rattle.head_links.specs.declared.Change.{Change}
 use Rattle.head_links.specs.declared.Link.{Link}
-use Rattle.head_links.specs.declared.Sent.{Sent}
-use Rattle.head_links.specs.declared.Sent.TheVariants.{Nothing, To}
 use Rattle.head_survey.specs.Facts.{are_all_sound, link_from}
 use Rattle.head_table.specs.Events.{port_of, react_of, reacted}
 use Rattle.head_table.specs.declared.Event.{Event}
@@ -88,9 +87,9 @@ module _ (A : Address) where
       go true r = r refl
       go false r = refl
 
-  pub sent-quiet : (s : Sender) (x : Sent) → Quiet A x → All (λ m. calls_box A m ≡ false) (sent_by s x)
-  sent-quiet s Nothing q = tt
-  sent-quiet s (To a body) q = (calls-not a body q, tt)
+  pub sent-quiet : (s : Sender) (x : Option (Address × Body)) → Quiet A x → All (λ m. calls_box A m ≡ false) (sent_by s x)
+  sent-quiet s None q = tt
+  sent-quiet s (Some (a, body)) q = (calls-not a body q, tt)
 
   -- where no link is held for A
   abbrev pub NoneHeld : ℕ → List Link → Type 0

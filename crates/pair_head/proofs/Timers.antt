@@ -1,5 +1,6 @@
 -- A tick of a link with more than a tick left to its wait or its watchdog: the link stays, with one tick less.
 -- Assumes nothing.
+use Rattle.std.proofs.Common.{None, Some}
 use Prim.Native.Nat.{ℕ, suc}
 use mathlib.Core.Path.{◌≡◌, refl, sym, subst}
 use mathlib.Core.Logic.{◌⊎◌, inl, inr}
@@ -13,7 +14,6 @@ use Rattle.head_links.specs.Link.{is_registered}
 use Rattle.head_links.specs.Steps.{with_watchdog, gated}
 use Rattle.head_links.specs.Tick.{tick_wait, tick_periodic, tick_watchdog, tick_in, tick_of}
 use Rattle.head_links.specs.declared.Link.{Link}
-use Rattle.head_links.specs.declared.Sent.TheVariants.{Nothing, To}
 use Rattle.head_links.specs.declared.State.{State}
 use Rattle.head_links.specs.declared.State.TheVariants.{Waiting, Registered}
 use Rattle.head_links.specs.declared.Stepped.{Stepped}
@@ -22,7 +22,7 @@ pub record StillWaiting (l : Link) (n : ℕ) (x : Stepped) : Type 0 where
   pub state : x.link.state ≡ Waiting
   pub address : x.link.address ≡ l.address
   pub left : x.link.wait.left ≡ n
-  pub sent : x.sent ≡ Nothing
+  pub sent : x.sent ≡ None
 
 pub tick-waiting : (l : Link) (port n : ℕ) → l.state ≡ Waiting → l.wait.left ≡ suc (suc n) → StillWaiting l (suc n) (tick_of l port)
 unfolding tick_wait
@@ -36,7 +36,7 @@ pub record StillRegistered (l : Link) (n : ℕ) (x : Stepped) : Type 0 where
   pub state : x.link.state ≡ Registered
   pub address : x.link.address ≡ l.address
   pub left : x.link.watchdog.left ≡ n
-  pub sent : (x.sent ≡ Nothing) ⊎ (x.sent ≡ To l.address (Gate None))
+  pub sent : (x.sent ≡ None) ⊎ (x.sent ≡ Some (l.address, Gate None))
 
 gate-due : (l : Link) → l.state ≡ Registered → StillRegistered l l.watchdog.left (gated l None)
 unfolding gated

@@ -1,5 +1,5 @@
--- After i turns: the first i links have had the event, and what they send stands in the output.
-use Rattle.std.proofs.Common.{◌-◌, ◌≡◌}
+-- Before link i, the first i links have had the event, and what they send stands in the output.
+use Rattle.std.proofs.Common.{◌≡◌}
 use Rattle.head_table.specs.Events.{reacted}
 use Rattle.head_table.specs.Output.{output, note_link}
 use Rattle.lent.proofs.Folds.{up_to, fold_to}
@@ -9,8 +9,5 @@ abbrev pub invariant-loop-i : goal.invariant-loop-i
 invariant-loop-i l =
     record {
       table : l.links ≡ up_to (reacted l.event) 1 l.initial.links l.i;
-      sent : output l.out l.a ≡ fold_to (note_link l.event l.sender) 1 l.initial.links l.i (output l.initial.out l.n);
+      sent : output l.out l.frames ≡ fold_to (note_link l.event l.sender) 1 l.initial.links l.i (output l.initial.out l.n);
     }
-
-abbrev pub decreases-loop-i : goal.decreases-loop-i
-decreases-loop-i l = l.most - l.i
