@@ -14,6 +14,8 @@ use Rattle.face_box.proofs.unpack.Kinds as unpack-kinds
 use Rattle.face_box.proofs.unpack.Reads as unpack
 use Rattle.face_box.proofs.has_words.Kinds as has-words-kinds
 use Rattle.face_box.proofs.has_words.Reads as has_words
+use Rattle.face_box.proofs.is_clear.Kinds as is-clear-kinds
+use Rattle.face_box.proofs.is_clear.Reads as is-clear
 use Rattle.face_box.proofs.tell.Kinds as tell-kinds
 use Rattle.face_box.proofs.tell.Reads as tell
 
@@ -34,6 +36,9 @@ unpack-settles κs a e x y p q = p ∙ sym q
 
 pub has-words-settles : Settles 0 has-words-kinds.ps has-words-kinds.r has_words.Post
 has-words-settles κs a e x y p q = p ∙ sym q
+
+pub is-clear-settles : Settles 1 is-clear-kinds.ps is-clear-kinds.r is-clear.Post
+is-clear-settles κs a e x y p q = p ∙ sym q
 
 pub tell-settles : SettlesLent 1 tell-kinds.ps tell-kinds.r (λ κs e. e.1.1.1.0.now) tell.Post
 tell-settles κs a e f x y p q = (refl, p ∙ sym q)

@@ -1,8 +1,8 @@
 // A box as words of 64 bits, which is how the C face keeps it in the caller's memory, and a box's answer as words.
-#![tactic(auto)]
+#![tactic(auto, using(std::proofs::lemmas::Bool::Decides::nat_tests), unfolding(crate::specs::Box::state_of, crate::specs::Box::discovery_of, crate::specs::Box::phase_of, crate::specs::Box::front_words, crate::specs::Box::front_of, crate::specs::Laying::how_many))]
 
 ghost use Rattle.std.specs.Prelude.{◌≡◌, map, drop};
-ghost use Rattle.face_box.specs.Box.{state_word, state_of, registration_of, phase_words, discovery_of, phase_of, light_of, front_words, front_of, boxed, is_clear, has_words, box_words, nobody, box_in};
+ghost use Rattle.face_box.specs.Box.{state_word, state_of, registration_of, phase_words, phase_of, light_of, front_words, front_of, boxed, is_clear, has_words, box_words, nobody, box_in};
 ghost use Rattle.face_box.specs.Listing.{list_of};
 ghost use Rattle.face_box.specs.Laying.{how_many, layout};
 ghost use Rattle.face_box.specs.Told.{kind_words, notice_words, told_words};
@@ -48,31 +48,21 @@ pub struct Front {
 fn entry_words(list: GrantList) -> [u64; 16]
     ensures { result ≡ map span_word list.entries }
 {
-    let entries = list.entries;
     let mut out = [0u64; 16];
-    let mut i = 0;
-    while i < GrantList::ROOM {
-        let e = entries[i];
-        out[i] = face_fields::span_word(e);
-        i += 1;
+    for (i, e) in list.entries.iter().enumerate() {
+        out[i] = face_fields::span_word(*e);
     }
     out
 }
 
-fn list_of(number: usize, entries: [u64; 16]) -> GrantList
-    ensures { result ≡ list_of number entries }
+fn list_of(number: usize, words: &[u64; 16]) -> GrantList
+    ensures { result ≡ list_of number words.now }
 {
-    let mut out = [face_fields::span_of(0); 16];
-    let mut i = 0;
-    while i < GrantList::ROOM {
-        let e = face_fields::span_of(entries[i]);
-        out[i] = e;
-        i += 1;
+    let mut entries = [face_fields::span_of(0); 16];
+    for (i, w) in words.iter().enumerate() {
+        entries[i] = face_fields::span_of(*w);
     }
-    GrantList {
-        entries: out,
-        number,
-    }
+    GrantList { entries, number }
 }
 
 fn state_word(state: State) -> u64
@@ -90,16 +80,12 @@ fn state_word(state: State) -> u64
 fn state_of(word: u64) -> State
     ensures { result ≡ state_of word }
 {
-    if word == 1 {
-        return State::Registering;
+    match word {
+        1 => State::Registering,
+        2 => State::RegisterReq,
+        3 => State::Registered,
+        _ => State::Wait,
     }
-    if word == 2 {
-        return State::RegisterReq;
-    }
-    if word == 3 {
-        return State::Registered;
-    }
-    State::Wait
 }
 
 fn registration_of(
@@ -133,66 +119,42 @@ fn phase_words(held: Phase) -> PhaseWords
 {
     match held {
         Phase::Rest => phase(0, 0, 0),
-        Phase::Before { random, sync } => phase(1, random.0 as u64, sync.0 as u64),
-        Phase::Random { sync } => phase(2, 0, sync.0 as u64),
+        Phase::Before { random, sync } => phase(1, u64::from(random.0), u64::from(sync.0)),
+        Phase::Random { sync } => phase(2, 0, u64::from(sync.0)),
         Phase::Warming => phase(3, 0, 0),
         Phase::Asking => phase(4, 0, 0),
-        Phase::Due { entry, sync } => phase(5, face_fields::span_word(entry), sync.0 as u64),
-        Phase::Lit { length, sync } => phase(6, length.0 as u64, sync.0 as u64),
+        Phase::Due { entry, sync } => phase(5, face_fields::span_word(entry), u64::from(sync.0)),
+        Phase::Lit { length, sync } => phase(6, u64::from(length.0), u64::from(sync.0)),
         Phase::Open => phase(7, 0, 0),
         Phase::Fading => phase(8, 0, 0),
     }
 }
 
-// The phases of discovery. A word that is no phase's is taken as rest.
-fn discovery_of(w: PhaseWords) -> Phase
-    ensures { result ≡ discovery_of w }
-{
-    let phase = w.phase;
-    let sync = face_fields::quanta_of(w.sync);
-    if phase == 1 {
-        return Phase::Before {
-            random: face_fields::quanta_of(w.grant),
-            sync,
-        };
-    }
-    if phase == 2 {
-        return Phase::Random { sync };
-    }
-    if phase == 3 {
-        return Phase::Warming;
-    }
-    if phase == 4 {
-        return Phase::Asking;
-    }
-    Phase::Rest
-}
-
+// A word that is no phase's is taken as rest.
 fn phase_of(w: PhaseWords) -> Phase
     ensures { result ≡ phase_of w }
 {
-    let phase = w.phase;
-    let grant = w.grant;
     let sync = face_fields::quanta_of(w.sync);
-    if phase == 5 {
-        return Phase::Due {
-            entry: face_fields::span_of(grant),
+    match w.phase {
+        1 => Phase::Before {
+            random: face_fields::quanta_of(w.grant),
             sync,
-        };
-    }
-    if phase == 6 {
-        return Phase::Lit {
-            length: face_fields::quanta_of(grant),
+        },
+        2 => Phase::Random { sync },
+        3 => Phase::Warming,
+        4 => Phase::Asking,
+        5 => Phase::Due {
+            entry: face_fields::span_of(w.grant),
             sync,
-        };
+        },
+        6 => Phase::Lit {
+            length: face_fields::quanta_of(w.grant),
+            sync,
+        },
+        7 => Phase::Open,
+        8 => Phase::Fading,
+        _ => Phase::Rest,
     }
-    if phase == 7 {
-        return Phase::Open;
-    }
-    if phase == 8 {
-        return Phase::Fading;
-    }
-    discovery_of(w)
 }
 
 fn light_of(word: u64, left: u64, grant: u64, sync: u64) -> Light
@@ -207,29 +169,26 @@ fn light_of(word: u64, left: u64, grant: u64, sync: u64) -> Light
 pub fn front_words(f: Front) -> [u64; 13]
     ensures { result ≡ front_words f }
 {
-    let address = f.address;
-    let count = f.count;
-    let registration = f.registration;
-    let light = f.light;
-    let timer = light.timer;
-    let phase = light.phase;
-    let held = phase_words(phase);
-    let state = registration.state;
-    let wait = registration.wait;
-    let watchdog = registration.watchdog;
-    let report = registration.report;
-    let sync = registration.sync;
+    let Registration {
+        state,
+        wait,
+        watchdog,
+        report,
+        port,
+        sync,
+    } = f.registration;
+    let held = phase_words(f.light.phase);
     [
-        address.0,
-        count.0 as u64,
+        f.address.0,
+        u64::from(f.count.0),
         state_word(state),
-        wait.left as u64,
-        watchdog.left as u64,
-        report.left as u64,
-        registration.port as u64,
-        sync.0 as u64,
+        u64::from(wait.left),
+        u64::from(watchdog.left),
+        u64::from(report.left),
+        u64::from(port),
+        u64::from(sync.0),
         held.phase,
-        timer.left as u64,
+        u64::from(f.light.timer.left),
         held.grant,
         held.sync,
         f.number as u64,
@@ -253,7 +212,7 @@ pub fn entries_in(w: [u64; 29]) -> [u64; 16]
     ensures { result ≡ drop 13 w }
 {
     let mut entries = [0u64; 16];
-    face_words::lay(&w[13..], &mut entries);
+    entries.copy_from_slice(&w[13..]);
     entries
 }
 
@@ -261,71 +220,63 @@ pub fn entries_in(w: [u64; 29]) -> [u64; 16]
 pub fn pack(b: FloorBox) -> [u64; 29]
     ensures { result ≡ box_words b }
 {
-    let address = b.address;
-    let processes = b.processes;
-    let count = processes.count;
-    let registration = processes.registration;
-    let list = processes.list;
-    let light = processes.light;
-    let front = front_words(Front {
-        address,
+    let Processes {
+        count,
+        registration,
+        list,
+        light,
+    } = b.processes;
+    let front = Front {
+        address: b.address,
         count,
         registration,
         light,
         number: list.number,
-    });
-    let entries = entry_words(list);
+    };
     let mut w = [0u64; 29];
-    face_words::lay(&front, &mut w);
-    face_words::lay(&entries, &mut w[13..]);
+    w[..13].copy_from_slice(&front_words(front));
+    w[13..].copy_from_slice(&entry_words(list));
     w
 }
 
-// Nothing stands behind so many grants.
-fn is_clear(number: usize, entries: [u64; 16]) -> bool
-    ensures { result ≡ is_clear (drop number entries) }
+// Nothing stands in these words. All are looked at, which is faster than to end at the first that isn't 0.
+pub fn is_clear(words: &[u64]) -> bool
+    ensures { result ≡ is_clear words.now }
 {
-    let mut clear = true;
-    let mut i = number;
-    while i < GrantList::ROOM {
-        clear = clear & (entries[i] == 0);
-        i += 1;
-    }
-    clear
+    words.iter().fold(true, |clear, w| clear & (*w == 0))
 }
 
 // Whether a box with this front has just these words.
 pub fn has_words(front: Front, w: [u64; 29]) -> bool
     ensures { result ≡ has_words front w }
 {
-    let told = front_words(front);
-    face_words::same(&told, &w[..13]) & is_clear(front.number, entries_in(w))
+    let behind = 13 + front.number.min(GrantList::ROOM);
+    face_words::same(&front_words(front), &w[..13]) & is_clear(&w[behind..])
 }
 
 // What a refused fresh box is: sound nowhere, for its address.
 fn nobody() -> FloorBox
     ensures { result ≡ nobody }
 {
-    let address = Address(0);
-    let processes = Processes::fresh();
-    FloorBox { address, processes }
+    FloorBox {
+        address: Address(0),
+        processes: Processes::fresh(),
+    }
 }
 
 // The box with this front and the list's sixteen places.
-fn box_with(front: Front, entries: [u64; 16]) -> FloorBox
-    ensures { result ≡ boxed front (map span_of entries) }
+fn box_with(front: Front, entries: &[u64; 16]) -> FloorBox
+    ensures { result ≡ boxed front (map span_of entries.now) }
 {
-    let address = front.address;
-    let count = front.count;
-    let registration = front.registration;
-    let light = front.light;
-    let processes = Processes {
-        count,
-        registration,
-        list: list_of(front.number, entries),
-        light,
-    };
-    FloorBox { address, processes }
+    FloorBox {
+        address: front.address,
+        processes: Processes {
+            count: front.count,
+            registration: front.registration,
+            list: list_of(front.number, entries),
+            light: front.light,
+        },
+    }
 }
 
 // The box that the words tell.
@@ -334,7 +285,7 @@ pub fn unpack(w: [u64; 29]) -> FloorBox
 {
     let front = front_of(w);
     if has_words(front, w) {
-        return box_with(front, entries_in(w));
+        return box_with(front, &entries_in(w));
     }
     nobody()
 }
@@ -360,16 +311,12 @@ fn notice_words(notice: Notice) -> NoticeWords
         Notice::Refused => kind(3),
         Notice::Retry => kind(4),
         Notice::Deregistered => kind(5),
-        Notice::Granted(grant) => {
-            let start = grant.start;
-            let length = grant.length;
-            NoticeWords {
-                kind: 6,
-                start: start.0 as u64,
-                length: length.0 as u64,
-                force: face_words::bit(grant.force),
-            }
-        }
+        Notice::Granted(grant) => NoticeWords {
+            kind: 6,
+            start: u64::from(grant.start.0),
+            length: u64::from(grant.length.0),
+            force: face_words::bit(grant.force),
+        },
         Notice::Open => kind(7),
         Notice::Close => kind(8),
     }
@@ -379,19 +326,13 @@ fn notice_words(notice: Notice) -> NoticeWords
 fn number(a: u64, b: u64, c: u64, d: u64) -> usize
     ensures { result ≡ how_many a b c d }
 {
-    if a == 0 {
-        return 0;
+    match (a, b, c, d) {
+        (0, ..) => 0,
+        (_, 0, ..) => 1,
+        (_, _, 0, _) => 2,
+        (_, _, _, 0) => 3,
+        _ => 4,
     }
-    if b == 0 {
-        return 1;
-    }
-    if c == 0 {
-        return 2;
-    }
-    if d == 0 {
-        return 3;
-    }
-    4
 }
 
 fn layout(
@@ -432,14 +373,10 @@ fn layout(
 pub fn tell(drift: i64, frames: usize, notices: Notices, reply: &mut [u64])
     ensures { reply.new ≡ laid (told_words drift frames notices) reply.old }
 {
-    let first = notices.first;
-    let second = notices.second;
-    let third = notices.third;
-    let fourth = notices.fourth;
-    let a = notice_words(first);
-    let b = notice_words(second);
-    let c = notice_words(third);
-    let d = notice_words(fourth);
+    let a = notice_words(notices.first);
+    let b = notice_words(notices.second);
+    let c = notice_words(notices.third);
+    let d = notice_words(notices.fourth);
     let n = number(a.kind, b.kind, c.kind, d.kind);
     let words = layout(drift, frames, n, a, b, c, d);
     let end = 3 + 4 * n;

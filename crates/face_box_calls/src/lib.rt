@@ -65,16 +65,11 @@ fn lay_frames(sent: Frames, frames: &mut [u8])
     requires { 120 ≤ length frames.old }
     ensures { frames.new ≡ laid_frames sent frames.old }
 {
-    if sent.number == 0 {
-        return;
+    match sent.number {
+        0 => {}
+        1 => lay_one(sent.first, frames),
+        _ => lay_both(sent.first, sent.second, frames),
     }
-    let first = sent.first;
-    if sent.number == 1 {
-        lay_one(first, frames);
-        return;
-    }
-    let second = sent.second;
-    lay_both(first, second, frames);
 }
 
 // What a call tells and sends goes into the caller's memory, and its number back.
@@ -82,19 +77,15 @@ fn tell(answer: Answer, frames: &mut [u8], reply: &mut [u64]) -> u8
     requires { 120 ≤ length frames.old }
     ensures { told result frames.new reply.new ≡ told_of answer frames.old reply.old }
 {
-    let sent = answer.frames;
-    let notices = answer.notices;
-    let number = answer.reply;
-    face_box::tell(answer.drift, sent.number, notices, reply);
-    lay_frames(sent, frames);
-    number.number()
+    face_box::tell(answer.drift, answer.frames.number, answer.notices, reply);
+    lay_frames(answer.frames, frames);
+    answer.reply.number()
 }
 
 fn keep(b: FloorBox, block: &mut [u64])
     ensures { block.new ≡ laid (box_words b) block.old }
 {
-    let words = face_box::pack(b);
-    face_words::lay(&words, block);
+    face_words::lay(&face_box::pack(b), block);
 }
 
 // The box that a call answers with goes into the block.
@@ -102,8 +93,7 @@ fn hand_out(answer: Answer, block: &mut [u64], frames: &mut [u8], reply: &mut [u
     requires { 120 ≤ length frames.old }
     ensures { left result block.new frames.new reply.new ≡ handed answer block.old frames.old reply.old }
 {
-    let next = answer.next;
-    keep(next, block);
+    keep(answer.next, block);
     tell(answer, frames, reply)
 }
 
@@ -112,8 +102,7 @@ fn settle(answer: Answer, block: &mut [u64], frames: &mut [u8], reply: &mut [u64
     requires { 120 ≤ length frames.old }
     ensures { left result block.new frames.new reply.new ≡ settled answer block.old frames.old reply.old }
 {
-    let number = answer.reply;
-    if number.number() == 0 {
+    if answer.reply.number() == 0 {
         return hand_out(answer, block, frames, reply);
     }
     tell(answer, frames, reply)
@@ -123,20 +112,17 @@ fn settle(answer: Answer, block: &mut [u64], frames: &mut [u8], reply: &mut [u64
 fn tell_nothing(reply: &mut [u64])
     ensures { reply.new ≡ laid (0 ∷ 0 ∷ 0 ∷ []) reply.old }
 {
-    let nothing = [0u64; 3];
-    face_words::lay(&nothing, reply);
+    face_words::lay(&[0; 3], reply);
 }
 
 fn heard(b: FloorBox, octets: &[u8], random: u32) -> Answer
     ensures { result ≡ heard_of octets.now random b }
 {
     let reading = frame_reader::read(octets);
-    let reply = reading.reply;
-    let message = reading.message;
-    if reply.number() != 0 {
-        return b.refused(reply);
+    if reading.reply.number() != 0 {
+        return b.refused(reading.reply);
     }
-    b.hear(message, random)
+    b.hear(reading.message, random)
 }
 
 // A box that has not begun.
@@ -154,8 +140,7 @@ pub fn register(block: &mut [u64], frames: &mut [u8], reply: &mut [u64]) -> u8
     ensures { left result block.new frames.new reply.new ≡ box_call register_of block.old frames.old reply.old }
 {
     if is_lent(block.len(), frames.len(), reply.len()) {
-        let b = load(block);
-        return settle(b.register(), block, frames, reply);
+        return settle(load(block).register(), block, frames, reply);
     }
     SHORT
 }
@@ -165,8 +150,7 @@ pub fn deregister(block: &mut [u64], frames: &mut [u8], reply: &mut [u64]) -> u8
     ensures { left result block.new frames.new reply.new ≡ box_call deregister_of block.old frames.old reply.old }
 {
     if is_lent(block.len(), frames.len(), reply.len()) {
-        let b = load(block);
-        return settle(b.deregister(), block, frames, reply);
+        return settle(load(block).deregister(), block, frames, reply);
     }
     SHORT
 }
@@ -182,9 +166,12 @@ pub fn report(
     ensures { left result block.new frames.new reply.new ≡ box_call (report_of (asked_of number sets.now)) block.old frames.old reply.old }
 {
     if is_lent(block.len(), frames.len(), reply.len()) {
-        let b = load(block);
-        let asked = Sets::asked(number, sets);
-        return settle(b.report(asked), block, frames, reply);
+        return settle(
+            load(block).report(Sets::asked(number, sets)),
+            block,
+            frames,
+            reply,
+        );
     }
     SHORT
 }
@@ -200,8 +187,7 @@ pub fn hear(
     ensures { left result block.new frames.new reply.new ≡ box_call (heard_of octets.now random) block.old frames.old reply.old }
 {
     if is_lent(block.len(), frames.len(), reply.len()) {
-        let b = load(block);
-        return settle(heard(b, octets, random), block, frames, reply);
+        return settle(heard(load(block), octets, random), block, frames, reply);
     }
     SHORT
 }
@@ -216,8 +202,7 @@ pub fn tick(block: &mut [u64], frames: &mut [u8], reply: &mut [u64]) -> u8
             tell_nothing(reply);
             return 0;
         }
-        let b = load(block);
-        return settle(b.tick(), block, frames, reply);
+        return settle(load(block).tick(), block, frames, reply);
     }
     SHORT
 }
@@ -233,18 +218,16 @@ fn count_ticks(
     requires { 120 ≤ length frames.old }
     ensures { advance_left (left result block.new frames.new reply.new) made.new ≡ advanced_of n block.old frames.old reply.old made.old }
 {
-    let b = load(block);
-    let advanced = b.advance(n);
-    let answer = advanced.answer;
+    let advanced = load(block).advance(n);
     face_words::lay_word(advanced.made, made);
-    settle(answer, block, frames, reply)
+    settle(advanced.answer, block, frames, reply)
 }
 
 // A call may make so many ticks, and each of them is quiet.
 fn are_quiet(n: u64, block: &[u64]) -> bool
     ensures { result ≡ (is_in_reach n && leb n (until_call block.now)) }
 {
-    clock::in_reach(n) & (n <= face_box_pass::quiet(block) as u64)
+    clock::in_reach(n) && n <= u64::from(face_box_pass::quiet(block))
 }
 
 // So many ticks, until one hands something out or the next would be refused: quiet ones are made in a step, where the words lie.
@@ -257,7 +240,7 @@ pub fn advance(
 ) -> u8
     ensures { advance_left (left result block.new frames.new reply.new) made.new ≡ advance_call n block.old frames.old reply.old made.old }
 {
-    if made.len() == 0 {
+    if made.is_empty() {
         return SHORT;
     }
     if is_lent(block.len(), frames.len(), reply.len()) {
@@ -276,7 +259,7 @@ pub fn advance(
 pub fn ticks_until(block: &[u64]) -> u64
     ensures { result ≡ until_call block.now }
 {
-    face_box_pass::quiet(block) as u64
+    u64::from(face_box_pass::quiet(block))
 }
 
 // Which waiting frame goes next: 0 none, 1 the control frame, 2 the data frame.
@@ -286,12 +269,10 @@ pub fn next_to_send<'a>(block: &[u64], control: &'a [u8], data: &'a [u8]) -> u8
     if block.len() < BOX {
         return SHORT;
     }
-    let b = load(block);
-    let sent = b.next_to_send(control, data);
-    if sent.len() == 0 {
+    if load(block).next_to_send(control, data).is_empty() {
         return 0;
     }
-    if 0 < control.len() {
+    if !control.is_empty() {
         return 1;
     }
     2

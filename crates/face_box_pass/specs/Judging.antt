@@ -1,4 +1,4 @@
--- Code: the quiet ticks of a box as the code comes to them, word by word; `specs/Judged.antt` shows that they are those of the box in the block.
+-- Code: the quiet ticks of a box as the code comes to them, word by word of its 29; `specs/Judged.antt` shows that they are those of the box in the block.
 -- Assumes nothing.
 use Rattle.std.specs.Prelude.{ℕ, ◌+◌, ◌-◌, min, Bool, true, false, cond, ◌&&◌, ◌||◌, List, [], ◌∷◌, eqb, leb, ltb, take, drop, get_or}
 use Rattle.face_box.specs.Box.{is_clear}
@@ -57,12 +57,12 @@ are_held b number state phase grant =
     let held = drop 13 (take (13 + number) b) in
     cond (ltb 16 number) false
     (cond (eqb state 3)
-    (cond (is_clear (drop (13 + number) (take 29 b)) && are_short (drop 13 (take 29 b))) (cond (eqb phase 5) (is_among grant held) true) false)
+    (cond (is_clear (drop (13 + number) b) && are_short (drop 13 b)) (cond (eqb phase 5) (is_among grant held) true) false)
     false)
 
 unfoldable pub is_listed : List ℕ → ℕ → ℕ → ℕ → ℕ → Bool
 is_listed b number state phase grant =
-    cond (eqb number 0) (cond (eqb phase 5) false (is_clear (drop 13 (take 29 b)))) (are_held b number state phase grant)
+    cond (eqb number 0) (cond (eqb phase 5) false (is_clear (drop 13 b))) (are_held b number state phase grant)
 
 -- in WAIT the transmitter is at rest
 unfoldable pub shines_of : List ℕ → ℕ → ℕ → ℕ
@@ -76,5 +76,5 @@ judged_of b =
     let at : ℕ → ℕ = λ i. get_or b i 0 in
     let t = times_of (at 2) (at 3) (at 4) (at 5) in
     cond (is_own (at 0) (at 1) (at 6) (at 7))
-    (cond (eqb (at 8) 0) (cond (eqb (at 9) 0) (cond (is_clear (drop 10 (take 29 b))) t 0) 0) (min t (shines_of b (at 2) (at 8))))
+    (cond (eqb (at 8) 0) (cond (eqb (at 9) 0) (cond (is_clear (drop 10 b)) t 0) 0) (min t (shines_of b (at 2) (at 8))))
     0

@@ -2,11 +2,13 @@
 -- Assumes nothing.
 use Rattle.std.specs.Prelude.{ℕ, ◌+◌, ◌-◌, ◌%◌, cond, List, ltb, length, get_or, set}
 
--- the count wraps, and a timer that has fewer left stops
+-- a timer's word, so many ticks later; one that has fewer left stops
+abbrev pub less_at : ℕ → ℕ → List ℕ → List ℕ
+less_at i k b = set b i (get_or b i 0 - k)
+
+-- the count wraps
 unfoldable pub moved_of : List ℕ → ℕ → List ℕ
-moved_of b k =
-    let at : ℕ → ℕ = λ i. get_or b i 0 in
-    set (set (set (set (set b 1 ((at 1 + k) % 4294967296)) 3 (at 3 - k)) 4 (at 4 - k)) 5 (at 5 - k)) 9 (at 9 - k)
+moved_of b k = less_at 9 k (less_at 5 k (less_at 4 k (less_at 3 k (set b 1 ((get_or b 1 0 + k) % 4294967296)))))
 
 -- a block that is too short stays
 unfoldable pub passed_words_of : List ℕ → ℕ → List ℕ

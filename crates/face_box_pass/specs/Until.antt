@@ -3,7 +3,7 @@
 use Prim.Native.Nat.{ℕ, zero, suc, ◌+◌, ◌-◌, ◌^◌, ◌≤◌, ◌<◌, min}
 use Rattle.std.specs.Prelude.{◌≡◌, Bool, not, ◌&&◌, ◌||◌, ◌⊎◌, List, [], ◌∷◌, map, leb, length, take, drop}
 use Rattle.std.proofs.Math.Path.{refl, sym, ap}
-use Rattle.std.proofs.Common.{◌∙◌, inl, inr, take-take, drop-drop, take-add}
+use Rattle.std.proofs.Common.{◌∙◌, inl, inr, drop-drop, take-add}
 use Rattle.std.proofs.Math.Bool.{true, false, cond, or-true, or-false, and-true, and-false, and-eq-true_iff}
 use Rattle.std.proofs.lemmas.Bool.{false≢true}
 use Rattle.std.proofs.Math.Logic.{⊎_elim}
@@ -156,28 +156,25 @@ module _ (rest : List ℕ) (a0 a1 a2 a3 a4 a5 a6 a7 a8 a9 a10 a11 a12 : ℕ) whe
   abbrev pub block : List ℕ
   block = a0 ∷ a1 ∷ a2 ∷ a3 ∷ a4 ∷ a5 ∷ a6 ∷ a7 ∷ a8 ∷ a9 ∷ a10 ∷ a11 ∷ a12 ∷ rest
 
-  abbrev places : List ℕ
-  places = take 16 rest
+  held-is : drop 13 (take (13 + a12) block) ≡ take a12 rest
+  held-is = rw (take-add 13 a12 block)
 
-  held-is : a12 ≤ 16 → drop 13 (take (13 + a12) block) ≡ take a12 places
-  held-is h = rw (take-add 13 a12 block) (sym (take-take a12 16 rest h))
-
-  behind-is : drop (13 + a12) (take 29 block) ≡ drop a12 places
-  behind-is = sym (drop-drop a12 13 (take 29 block))
+  behind-is : drop (13 + a12) block ≡ drop a12 rest
+  behind-is = sym (drop-drop a12 13 block)
 
   list-is : is_listed block a12 a2 a8 a10
-      ≡ ((is_clear (drop a12 places) && (list_sound (list_of a12 places) && (is_registered (state_of a2) || eqb a12 0))) && waited a8 a10 (list_of a12 places))
+      ≡ ((is_clear (drop a12 rest) && (list_sound (list_of a12 rest) && (is_registered (state_of a2) || eqb a12 0))) && waited a8 a10 (list_of a12 rest))
   unfolding is_listed are_held list_sound
   list-is =
       ⊎_elim (λ (h : a12 < 1).
       let z : a12 ≡ 0 = omega arith in
-      rw (z, or-true (is_registered (state_of a2))) (alone (eqb a8 5) (is_clear places)))
+      rw (z, or-true (is_registered (state_of a2))) (alone (eqb a8 5) (is_clear rest)))
       (λ (h : 1 ≤ a12).
       ⊎_elim (λ (k : 16 < a12). rw (ne_eqb a12 0 (omega arith), lt-ltb 16 a12 k, lt-leb a12 16 k) (simp and-false refl))
       (λ (k : a12 ≤ 16).
       let n : min a12 16 ≡ a12 = omega arith in
-      rw (ne_eqb a12 0 (omega arith), le-ltb 16 a12 k, le-leb a12 16 k, n, held-is k, behind-is, all_short a12 places, shorts a12 places, among a10 a12 places, registered-is a2, or-false (eqb a2 3))
-      (found (eqb a2 3) (is_clear (drop a12 places)) (are_short (take a12 places)) (cond (eqb a8 5) (is_among a10 (take a12 places)) true)))
+      rw (ne_eqb a12 0 (omega arith), le-ltb 16 a12 k, le-leb a12 16 k, n, held-is, behind-is, all_short a12 rest, shorts a12 rest, among a10 a12 rest, registered-is a2, or-false (eqb a2 3))
+      (found (eqb a2 3) (is_clear (drop a12 rest)) (are_short (take a12 rest)) (cond (eqb a8 5) (is_among a10 (take a12 rest)) true)))
       (cut 16 a12))
       (cut a12 1)
     where
@@ -321,11 +318,11 @@ resting true true true t rq e = omega arith
 
 module _ (rest : List ℕ) (a0 a1 a2 a3 a4 a5 a6 a7 a8 a9 a10 a11 a12 : ℕ) where
   abbrev pub words : List ℕ
-  words = a0 ∷ a1 ∷ a2 ∷ a3 ∷ a4 ∷ a5 ∷ a6 ∷ a7 ∷ a8 ∷ a9 ∷ a10 ∷ a11 ∷ a12 ∷ take 16 rest
+  words = block (take 16 rest) a0 a1 a2 a3 a4 a5 a6 a7 a8 a9 a10 a11 a12
 
   -- what the code comes to is what the box says
   abbrev Comes : Type 0
-  Comes = min (judged_of (block rest a0 a1 a2 a3 a4 a5 a6 a7 a8 a9 a10 a11 a12)) 65536 ≡ quiet_of (box_in words)
+  Comes = min (judged_of words) 65536 ≡ quiet_of (box_in words)
 
   abbrev registration : Registration
   registration = registration_of a2 a3 a4 a5 a6 a7
@@ -406,7 +403,7 @@ module _ (rest : List ℕ) (a0 a1 a2 a3 a4 a5 a6 a7 a8 a9 a10 a11 a12 : ℕ) whe
     shines-is =
         let own = is_own a0 a1 a6 a7 in
         let held = waited a8 a10 list in
-        rw (ne_eqb a8 0 (omega arith), light-is a9 a10 a11 a8 on, list-is rest a0 a1 a2 a3 a4 a5 a6 a7 a8 a9 a10 a11 a12)
+        rw (ne_eqb a8 0 (omega arith), light-is a9 a10 a11 a8 on, list-is (take 16 rest) a0 a1 a2 a3 a4 a5 a6 a7 a8 a9 a10 a11 a12)
         (shining own timely (eqb a2 0) (listed && held) (shown && apart light) (times_of a2 a3 a4 a5) (registration_quiet registration) (light_quiet light) (times-is a3 a4 a5 a6 a7 a2)
         ∙ ap (λ (t : Bool). guard t (min (registration_quiet registration) (light_quiet light)))
         (sym (settled own timely shown (apart light) listed held (not (eqb a2 0)) (rests_in (state_of a2) light) rests)
@@ -536,7 +533,7 @@ thirteen (a0 ∷ a1 ∷ a2 ∷ a3 ∷ a4 ∷ a5 ∷ a6 ∷ a7 ∷ a8 ∷ a9 ∷ 
     record { rest = rest; a0 = a0; a1 = a1; a2 = a2; a3 = a3; a4 = a4; a5 = a5; a6 = a6; a7 = a7; a8 = a8; a9 = a9; a10 = a10; a11 = a11; a12 = a12; is = refl; more = omega arith }
 
 -- the theorem
-pub until-is : (b : List ℕ) → 29 ≤ length b → min (judged_of b) 65536 ≡ quiet_of (box_at b)
+pub until-is : (b : List ℕ) → 29 ≤ length b → min (judged_of (take 29 b)) 65536 ≡ quiet_of (box_at b)
 unfolding box_at
 until-is b h =
     let t = thirteen b h in

@@ -1,13 +1,17 @@
 -- A chain of tests is passed exactly if each of them is.
 -- Assumes nothing.
-use mathlib.Core.Path.{◌≡◌}
-use mathlib.Core.Bool.{Bool, true, ◌&&◌, and-eq-true_iff}
+use mathlib.Core.Path.{◌≡◌, refl}
+use mathlib.Core.Bool.{Bool, true, ◌&&◌, and-eq-true_iff, and_assoc}
 use mathlib.Core.List.{List, [], ◌∷◌}
 
 -- as code writes it: the first, and then each other
 abbrev pub chain : Bool → List Bool → Bool
 chain t [] = t
 chain t (b ∷ bs) = chain (t && b) bs
+
+pub chain-and : (h b : Bool) (bs : List Bool) → chain (h && b) bs ≡ (h && chain b bs)
+chain-and h b [] = refl
+chain-and h b (x ∷ bs) = rw and_assoc (chain-and h (b && x) bs)
 
 abbrev pub Each : List Bool → Type 0
 Each [] = Unit {0}

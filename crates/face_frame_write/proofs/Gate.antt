@@ -1,4 +1,4 @@
--- The same of a GATE, at any number of grants.
+-- The same of a GATE, at any number of grants, and then of all kinds.
 -- Assumes nothing.
 use Prim.Native.Nat.{ℕ, zero, suc, ◌+◌, ◌-◌, ◌*◌, ◌/◌, ◌%◌, ◌^◌, ◌≤◌, ◌<◌}
 use mathlib.Core.Path.{◌≡◌, refl, sym, ap, ◌∙◌}
@@ -19,13 +19,14 @@ use Rattle.frame.specs.declared.Grant.{Grant}
 use Rattle.frame_range.specs.Fits.{fits_body}
 use Rattle.frame_reader.proofs.Gate.{one-odd, listed-short, few-listed, bits_below}
 use Rattle.frame_reader.specs.Flags.{few}
-use Rattle.face_frame.specs.Tells.{grants_of, body_of}
+use Rattle.face_frame.specs.Tells.{at, grants_of, body_of}
+use Rattle.face_frame.specs.Laws.{first-ten}
 use Rattle.face_words.specs.Laws.{joined-again}
 use Rattle.face_words.specs.Words.{lower}
 use Rattle.face_frame_write.specs.Write.{writing_of, written}
-use Rattle.face_frame_write.specs.Steps.{grant_in, force_in, gate_in, grant_bytes, gate_laid}
+use Rattle.face_frame_write.specs.Steps.{left, message_laid, grant_in, force_in, gate_in, grant_bytes, gate_laid}
 use Rattle.face_frame_write.proofs.Chain.{each, passed}
-use Rattle.face_frame_write.proofs.Page.{body_words, Has, place, paged}
+use Rattle.face_frame_write.proofs.Page.{body_words, Has, place, paged, header, Paged, discovery-page, report-page, register-req-page, register-page, register-ack-page, no-page}
 
 -- a grant's word where it is there, and 0 where it isn't; and whether its length then has two octets
 abbrev shown : ℕ → Bool → ℕ
@@ -137,7 +138,7 @@ module _ (x a b c e : ℕ) where
     abbrev frame : List ℕ
     frame = frame_of d s 2 t (bytes 1 (n % 8 + 16 * (x % 16)) ++ grant_bytes a ++ grant_bytes b ++ grant_bytes c ++ grant_bytes e)
 
-    forth : gate_in n x a b c e ≡ true → Has d s t 0 (n ∷ x ∷ a ∷ b ∷ c ∷ e ∷ []) (Gate (few (gs n))) frame
+    forth : gate_in (n ∷ x ∷ a ∷ b ∷ c ∷ e ∷ []) ≡ true → Has d s t 0 (n ∷ x ∷ a ∷ b ∷ c ∷ e ∷ []) (Gate (few (gs n))) frame
     unfolding body_octets
     forth h =
         let g = each (force_in x n) tests h in
@@ -163,7 +164,7 @@ module _ (x a b c e : ℕ) where
               (ap (λ (l : List ℕ). header_of d s 2 t ++ l) (rw (a-is, b-is, c-is, e-is) at (octets-of n (n % 8 + 16 * (x % 16)) f.0)));
         }
 
-    back : body_words (Gate (few (gs n))) ≡ n ∷ x ∷ a ∷ b ∷ c ∷ e ∷ [] → fits_body (Gate (few (gs n))) ≡ true → gate_in n x a b c e ≡ true
+    back : body_words (Gate (few (gs n))) ≡ n ∷ x ∷ a ∷ b ∷ c ∷ e ∷ [] → fits_body (Gate (few (gs n))) ≡ true → gate_in (n ∷ x ∷ a ∷ b ∷ c ∷ e ∷ []) ≡ true
     back p q =
         let four : n ≤ 4 = omega (arith, place p 0, listed-short (few (gs n))) in
         let i = place (sym (words_of n four) ∙ p) in
@@ -177,7 +178,24 @@ module _ (x a b c e : ℕ) where
           ),
         )
 
-    pub gate-page : gate_laid d s t n x a b c e o ≡ written (writing_of (d ∷ s ∷ t ∷ 0 ∷ n ∷ x ∷ a ∷ b ∷ c ∷ e ∷ [])) o
-    unfolding gate_laid body_of
+    pub gate-page : Paged d s t o 0 (n ∷ x ∷ a ∷ b ∷ c ∷ e ∷ []) (gate_laid (header d s t) (n ∷ x ∷ a ∷ b ∷ c ∷ e ∷ []))
+    unfolding body_of
     gate-page =
-        paged d s t 0 (n ∷ x ∷ a ∷ b ∷ c ∷ e ∷ []) o (gate_in n x a b c e ∷ []) frame (λ h. forth h.0) (λ _ p q. (back p q, tt))
+        paged d s t 0 (n ∷ x ∷ a ∷ b ∷ c ∷ e ∷ []) o (gate_in (n ∷ x ∷ a ∷ b ∷ c ∷ e ∷ [])) [] frame (λ h. forth h.0) (λ _ p q. (back p q, tt))
+
+-- all six kinds
+message-page : (d s t k a b c e f g : ℕ) (o : List ℕ)
+    → left (message_laid (d ∷ s ∷ t ∷ k ∷ a ∷ b ∷ c ∷ e ∷ f ∷ g ∷ [])) o
+    ≡ written (writing_of (d ∷ s ∷ t ∷ k ∷ a ∷ b ∷ c ∷ e ∷ f ∷ g ∷ [])) o
+message-page d s t zero a b c e f g o = gate-page b c e f g d s t a o
+message-page d s t (suc zero) a b c e f g o = discovery-page d s t o a b c e f g
+message-page d s t (suc (suc zero)) a b c e f g o = report-page d s t o a b c e f g
+message-page d s t (suc (suc (suc zero))) a b c e f g o = register-req-page d s t o a b c e f g
+message-page d s t (suc (suc (suc (suc zero)))) a b c e f g o = register-page d s t o a b c e f g
+message-page d s t (suc (suc (suc (suc (suc zero))))) a b c e f g o = register-ack-page d s t o a b c e f g
+message-page d s t (suc (suc (suc (suc (suc (suc k)))))) a b c e f g o =
+    no-page d s t o (suc (suc (suc (suc (suc (suc k)))))) (a ∷ b ∷ c ∷ e ∷ f ∷ g ∷ []) (omega arith)
+
+pub told-message : (m o : List ℕ) → 10 ≤ length m → written (writing_of (take 10 m)) o ≡ left (message_laid (take 10 m)) o
+told-message m o h =
+    rw (first-ten m h) (sym (message-page (at m 0) (at m 1) (at m 2) (at m 3) (at m 4) (at m 5) (at m 6) (at m 7) (at m 8) (at m 9) o))

@@ -2,40 +2,45 @@
 -- Assumes nothing.
 use Prim.Native.Nat.{ℕ}
 use mathlib.Core.Path.{◌≡◌, refl, ap, ◌∙◌}
-use mathlib.Core.Bool.{Bool, and-true}
-use mathlib.Core.List.{List, [], ◌++◌}
-use lib.ListN.{take, drop}
+use mathlib.Core.Bool.{Bool, true, ◌&&◌, and-eq-true_iff}
+use mathlib.Core.List.{List, []}
+use borrow.Author.Tests.{eqb-true}
+use borrow.Rule.Slice.PartMut.{mid_of}
+use lib.Dec.{eqb}
 use Rattle.octets.specs.Octets.{onto}
-use Rattle.frame_queues.proofs.Fitting.{fit-sets}
-use Rattle.frame_queues.specs.Laws.{none-fit}
 use Rattle.frame_queues.specs.Queues.{used_of, forty_of, no_sets, ends_at, fits_sets}
 use Rattle.frame_queues.specs.declared.Sets.{Sets}
-use Rattle.frame.specs.Layout.{frame_of}
-use Rattle.face_frame_write.specs.Steps.{sets_over, empty_laid, sets_laid}
+use Rattle.face_frame_write.specs.declared.Header.{Header}
+use Rattle.face_frame_write.specs.Steps.{sets_over, framed}
 
-module _ (d s t : ℕ) where
-  laid : (sets : Sets) (rest : List ℕ) → sets_over (frame_of d s 3 t [] ++ rest) sets ≡ frame_of d s 3 t (forty_of sets) ++ rest
-  unfolding onto forty_of
-  laid sets rest = refl
+pub no-words : (a b c d e : ℕ) → (eqb a 0 && (eqb b 0 && (eqb c 0 && (eqb d 0 && eqb e 0)))) ≡ true
+    → record { first = a; second = b; third = c; fourth = d; fifth = e } ≡ no_sets
+no-words a b c d e h =
+    let p = (and-eq-true_iff (eqb a 0) _).0 h in
+    let q = (and-eq-true_iff (eqb b 0) _).0 p.1 in
+    let r = (and-eq-true_iff (eqb c 0) _).0 q.1 in
+    let s = (and-eq-true_iff (eqb d 0) (eqb e 0)).0 r.1 in
+    rw (eqb-true a 0 p.0, eqb-true b 0 q.0, eqb-true c 0 r.0, eqb-true d 0 s.0, eqb-true e 0 s.1)
 
-  body : (sets : Sets) (rest : List ℕ) → take 40 (drop 20 (frame_of d s 3 t (forty_of sets) ++ rest)) ≡ forty_of sets
+module _ (h : Header) where
+  laid : (sets : Sets) → sets_over (framed h 3 []) sets ≡ framed h 3 (forty_of sets)
   unfolding onto forty_of
-  body sets rest = refl
+  laid sets = refl
 
-  pub laid-rest : (sets : Sets) (rest : List ℕ) → drop 60 (frame_of d s 3 t (forty_of sets) ++ rest) ≡ rest
+  body : (sets : Sets) → mid_of 20 40 (framed h 3 (forty_of sets)) ≡ forty_of sets
   unfolding onto forty_of
-  laid-rest sets rest = refl
+  body sets = refl
+
+  pub empty : framed h 3 [] ≡ framed h 3 (forty_of no_sets)
+  unfolding onto forty_of
+  empty = refl
 
   -- what is laid, and that the test of it is the test of the sets
-  pub laid-tested : (sets : Sets) (rest x : List ℕ) (n : ℕ) (r : Bool)
-      → x ≡ sets_over (frame_of d s 3 t [] ++ rest) sets → n ≡ used_of (take 40 (drop 20 x)) → r ≡ ends_at n sets
-      → (x ≡ frame_of d s 3 t (forty_of sets) ++ rest) × (r ≡ fits_sets sets)
+  pub laid-tested : (sets : Sets) (x : List ℕ) (n : ℕ) (r : Bool)
+      → x ≡ sets_over (framed h 3 []) sets → n ≡ used_of (mid_of 20 40 x) → r ≡ ends_at n sets
+      → (x ≡ framed h 3 (forty_of sets)) × (r ≡ fits_sets sets)
   unfolding fits_sets ends_at
-  laid-tested sets rest x n r e u h =
-      let is = e ∙ laid sets rest in
-      let used : n ≡ used_of (forty_of sets) = u ∙ ap (λ (l : List ℕ). used_of (take 40 (drop 20 l))) is ∙ ap used_of (body sets rest) in
-      (is, h ∙ ap (λ (k : ℕ). ends_at k sets) used)
-
-  pub empty-laid : (o : List ℕ) → empty_laid d s t o ≡ sets_laid d s t no_sets o
-  unfolding empty_laid sets_laid onto forty_of
-  empty-laid o = rw (fit-sets no_sets none-fit, and-true)
+  laid-tested sets x n r e u t =
+      let is = e ∙ laid sets in
+      let used : n ≡ used_of (forty_of sets) = u ∙ ap (λ (l : List ℕ). used_of (mid_of 20 40 l)) is ∙ ap used_of (body sets) in
+      (is, t ∙ ap (λ (k : ℕ). ends_at k sets) used)

@@ -1,68 +1,63 @@
 // Writing a frame: the words of a message straight into octets.
 #![tactic(auto)]
 
-ghost use Rattle.std.specs.Prelude.{◌≡◌, cond, eqb, [], ◌∷◌, ◌++◌, ◌+◌, ◌≤◌, length, take, drop, replicate};
+ghost use Rattle.std.specs.Prelude.{◌≡◌, cond, eqb, [], ◌+◌, ◌≤◌};
 ghost use Rattle.octets.specs.Octets.{bytes};
-ghost use Rattle.frame.specs.Layout.{frame_of};
 ghost use Rattle.octets.specs.Over.{over};
-ghost use Rattle.face_frame_write.specs.Write.{write_left, writing_of, written, write_call};
-ghost use Rattle.face_frame_write.specs.Steps.{header_in, grant_in, force_in, gate_in, grant_over, sets_over, gate_laid, discovery_laid, empty_laid, sets_laid, report_laid, register_req_laid, register_laid, register_ack_laid};
+ghost use Rattle.face_frame_write.specs.Write.{write_left, write_call};
+ghost use Rattle.face_frame_write.specs.Steps.{answered, header_in, grant_in, force_in, gate_in, grant_over, sets_over, framed, gate_laid, discovery_laid, report_laid, register_req_laid, register_laid, register_ack_laid, body_laid, message_laid};
 
 use face_words::SHORT;
-use frame::{Address, Body, Message};
+use frame::{Address, Body, Message, Reply};
 use frame_queues::Sets;
 
-// The card's number for what has no frame.
-const RANGE: u8 = 4;
+type Frame = [u8; Message::OCTETS];
 
-// Words of a message.
-const WORDS: usize = 10;
+// What a frame has before its body, but for type and opcode, in words that are still to be judged.
+#[derive(Clone, Copy)]
+struct Header {
+    destination: u64,
+    source: u64,
+    timestamp: u64,
+}
+
+impl Header {
+    fn is_in_range(self) -> bool
+        ensures { result ≡ header_in self }
+    {
+        (self.destination <= Address::LARGEST.0)
+            & frame_range::individual(Address(self.source))
+            & (self.timestamp <= 0xFFFFFFFF)
+    }
+
+    // A frame with an empty body.
+    fn begin(self, o: &mut Frame, opcode: u64)
+        ensures { o.new ≡ framed self opcode [] }
+    {
+        *o = [0; Message::OCTETS];
+        lay(o, 0, 6, self.destination);
+        lay(o, 6, 6, self.source);
+        lay(o, 12, 2, Message::KIND);
+        lay(o, 14, 2, opcode);
+        lay(o, 16, 4, self.timestamp);
+    }
+}
 
 // The n octets of x, written over `o` from `at`.
-fn lay(o: &mut [u8], at: usize, n: usize, x: u64)
-    requires { at + n ≤ length o.old }
+fn lay(o: &mut Frame, at: usize, n: usize, x: u64)
+    requires { at + n ≤ 60 }
     ensures { o.new ≡ over at o.old (bytes n x) }
 {
-    let e = at + n;
-    octets::put(&mut o[at..e], x);
+    octets::put(&mut o[at..at + n], x);
 }
 
 // A grant from a word, start above length; zeros where there is none.
-fn lay_grant(o: &mut [u8], at: usize, grant: u64)
-    requires { at + 6 ≤ length o.old }
+fn lay_grant(o: &mut Frame, at: usize, grant: u64)
+    requires { at + 6 ≤ 60 }
     ensures { o.new ≡ grant_over at o.old grant }
 {
-    lay(o, at, 4, face_words::upper(grant) as u64);
-    lay(o, at + 4, 2, face_words::lower(grant) as u64);
-}
-
-// A frame with an empty body.
-fn begin(o: &mut [u8], destination: u64, source: u64, opcode: u64, timestamp: u64)
-    requires { 60 ≤ length o.old }
-    ensures { o.new ≡ frame_of destination source opcode timestamp [] ++ drop 60 o.old }
-{
-    lay(o, 0, 60, 0);
-    lay(o, 0, 6, destination);
-    lay(o, 6, 6, source);
-    lay(o, 12, 2, Message::KIND);
-    lay(o, 14, 2, opcode);
-    lay(o, 16, 4, timestamp);
-}
-
-fn refuse(o: &mut [u8]) -> u8
-    requires { 60 ≤ length o.old }
-    ensures { write_left result o.new ≡ write_left 4 (replicate 60 0 ++ drop 60 o.old) }
-{
-    lay(o, 0, 60, 0);
-    RANGE
-}
-
-fn header_in(destination: u64, source: u64, timestamp: u64) -> bool
-    ensures { result ≡ header_in destination source timestamp }
-{
-    (destination <= 0xFFFFFFFFFFFF)
-        & frame_range::individual(Address(source))
-        & (timestamp <= 0xFFFFFFFF)
+    lay(o, at, 4, u64::from(face_words::upper(grant)));
+    lay(o, at + 4, 2, u64::from(face_words::lower(grant)));
 }
 
 fn grant_in(grant: u64, there: bool) -> bool
@@ -83,20 +78,10 @@ fn force_in(force: u64, n: u64) -> bool
     false
 }
 
-// The four grants of a GATE; those that aren't there are its pad.
-fn lay_grants(o: &mut [u8], a: u64, b: u64, c: u64, d: u64)
-    requires { 60 ≤ length o.old }
-    ensures { o.new ≡ grant_over 39 (grant_over 33 (grant_over 27 (grant_over 21 o.old a) b) c) d }
+fn gate_in(body: [u64; 6]) -> bool
+    ensures { result ≡ gate_in body }
 {
-    lay_grant(o, 21, a);
-    lay_grant(o, 27, b);
-    lay_grant(o, 33, c);
-    lay_grant(o, 39, d);
-}
-
-fn gate_in(n: u64, force: u64, a: u64, b: u64, c: u64, d: u64) -> bool
-    ensures { result ≡ gate_in n force a b c d }
-{
+    let [n, force, a, b, c, d] = body;
     force_in(force, n)
         & grant_in(a, 0 < n)
         & grant_in(b, 1 < n)
@@ -104,28 +89,21 @@ fn gate_in(n: u64, force: u64, a: u64, b: u64, c: u64, d: u64) -> bool
         & grant_in(d, 3 < n)
 }
 
-fn write_gate(
-    o: &mut [u8],
-    destination: u64,
-    source: u64,
-    timestamp: u64,
-    n: u64,
-    force: u64,
-    a: u64,
-    b: u64,
-    c: u64,
-    d: u64,
-) -> u8
-    requires { 60 ≤ length o.old }
-    ensures { write_left result o.new ≡ gate_laid destination source timestamp n force a b c d o.old }
+// Grants that aren't there are pad.
+fn write_gate(o: &mut Frame, h: Header, body: [u64; 6]) -> Result<(), Reply>
+    ensures { answered result o.new ≡ gate_laid h body }
 {
-    if header_in(destination, source, timestamp) & gate_in(n, force, a, b, c, d) {
-        begin(o, destination, source, Body::GATE, timestamp);
-        lay(o, 20, 1, n % 8 + 16 * (force % 16));
-        lay_grants(o, a, b, c, d);
-        return 0;
+    if !gate_in(body) {
+        return Err(Reply::Range);
     }
-    refuse(o)
+    let [n, force, a, b, c, d] = body;
+    h.begin(o, Body::GATE);
+    lay(o, 20, 1, n % 8 + 16 * (force % 16));
+    lay_grant(o, 21, a);
+    lay_grant(o, 27, b);
+    lay_grant(o, 33, c);
+    lay_grant(o, 39, d);
+    Ok(())
 }
 
 // One grant, the discovery bit, and whether the grant's force bit.
@@ -135,41 +113,24 @@ fn first_octet(force: u64) -> u64
     if force == 1 { 25 } else { 9 }
 }
 
-fn write_discovery(
-    o: &mut [u8],
-    destination: u64,
-    source: u64,
-    timestamp: u64,
-    sync: u64,
-    force: u64,
-    grant: u64,
-    a: u64,
-    b: u64,
-    c: u64,
-) -> u8
-    requires { 60 ≤ length o.old }
-    ensures { write_left result o.new ≡ discovery_laid destination source timestamp sync force grant a b c o.old }
+fn write_discovery(o: &mut Frame, h: Header, body: [u64; 6]) -> Result<(), Reply>
+    ensures { answered result o.new ≡ discovery_laid h body }
 {
-    if header_in(destination, source, timestamp)
-        & (sync <= 0xFFFF)
-        & (force <= 1)
-        & grant_in(grant, true)
-        & (a == 0)
-        & (b == 0)
-        & (c == 0)
-    {
-        begin(o, destination, source, Body::GATE, timestamp);
-        lay(o, 20, 1, first_octet(force));
-        lay_grant(o, 21, grant);
-        lay(o, 27, 2, sync);
-        return 0;
+    match body {
+        [sync @ ..=0xFFFF, force @ ..=1, grant, 0, 0, 0] if grant_in(grant, true) => {
+            h.begin(o, Body::GATE);
+            lay(o, 20, 1, first_octet(force));
+            lay_grant(o, 21, grant);
+            lay(o, 27, 2, sync);
+            Ok(())
+        }
+        _ => Err(Reply::Range),
     }
-    refuse(o)
 }
 
 // Eight octets. With 0 apart the compiler has a block for each word, and in a block of its own a word is one store.
-fn lay_word(o: &mut [u8], at: usize, x: u64)
-    requires { at + 8 ≤ length o.old }
+fn lay_word(o: &mut Frame, at: usize, x: u64)
+    requires { at + 8 ≤ 60 }
     ensures { o.new ≡ over at o.old (bytes 8 x) }
 {
     if x == 0 {
@@ -180,8 +141,7 @@ fn lay_word(o: &mut [u8], at: usize, x: u64)
 }
 
 // The forty octets of a REPORT's body.
-fn lay_sets(o: &mut [u8], s: Sets)
-    requires { 60 ≤ length o.old }
+fn lay_sets(o: &mut Frame, s: Sets)
     ensures { o.new ≡ sets_over o.old s }
 {
     lay_word(o, 20, s.first);
@@ -191,212 +151,129 @@ fn lay_sets(o: &mut [u8], s: Sets)
     lay_word(o, 52, s.fifth);
 }
 
-// Most REPORTs are empty.
-fn write_empty(o: &mut [u8], destination: u64, source: u64, timestamp: u64) -> u8
-    requires { 60 ≤ length o.old }
-    ensures { write_left result o.new ≡ empty_laid destination source timestamp o.old }
+// Most REPORTs are empty. Where sets end is told from the octets once they are laid.
+fn write_report(o: &mut Frame, h: Header, body: [u64; 6]) -> Result<(), Reply>
+    ensures { answered result o.new ≡ report_laid h body }
 {
-    if header_in(destination, source, timestamp) {
-        begin(o, destination, source, Body::REPORT, timestamp);
-        return 0;
-    }
-    refuse(o)
-}
-
-// Where the sets end is told from the octets once they are laid.
-fn write_sets(o: &mut [u8], destination: u64, source: u64, timestamp: u64, sets: Sets) -> u8
-    requires { 60 ≤ length o.old }
-    ensures { write_left result o.new ≡ sets_laid destination source timestamp sets o.old }
-{
-    begin(o, destination, source, Body::REPORT, timestamp);
-    lay_sets(o, sets);
-    let used = frame_queues::used(&o[20..60]);
-    if header_in(destination, source, timestamp) & sets.ends(used) {
-        return 0;
-    }
-    refuse(o)
-}
-
-fn write_report(
-    o: &mut [u8],
-    destination: u64,
-    source: u64,
-    timestamp: u64,
-    a: u64,
-    b: u64,
-    c: u64,
-    d: u64,
-    e: u64,
-    f: u64,
-) -> u8
-    requires { 60 ≤ length o.old }
-    ensures { write_left result o.new ≡ report_laid destination source timestamp a b c d e f o.old }
-{
-    if f != 0 {
-        return refuse(o);
-    }
-    if (a == 0) & (b == 0) & (c == 0) & (d == 0) & (e == 0) {
-        return write_empty(o, destination, source, timestamp);
-    }
-    let sets = Sets {
-        first: a,
-        second: b,
-        third: c,
-        fourth: d,
-        fifth: e,
+    let [first, second, third, fourth, fifth, 0] = body else {
+        return Err(Reply::Range);
     };
-    write_sets(o, destination, source, timestamp, sets)
+    let sets = Sets {
+        first,
+        second,
+        third,
+        fourth,
+        fifth,
+    };
+    h.begin(o, Body::REPORT);
+    if sets == Sets::NONE {
+        return Ok(());
+    }
+    lay_sets(o, sets);
+    let used = frame_queues::used(&o[20..]);
+    if !sets.ends(used) {
+        return Err(Reply::Range);
+    }
+    Ok(())
 }
 
-fn write_register_req(
-    o: &mut [u8],
-    destination: u64,
-    source: u64,
-    timestamp: u64,
-    flag: u64,
-    pending: u64,
-    a: u64,
-    b: u64,
-    c: u64,
-    d: u64,
-) -> u8
-    requires { 60 ≤ length o.old }
-    ensures { write_left result o.new ≡ register_req_laid destination source timestamp flag pending a b c d o.old }
+fn write_register_req(o: &mut Frame, h: Header, body: [u64; 6]) -> Result<(), Reply>
+    ensures { answered result o.new ≡ register_req_laid h body }
 {
-    if header_in(destination, source, timestamp)
-        & ((flag == 1) | (flag == 3))
-        & (pending <= 0xFF)
-        & (a == 0)
-        & (b == 0)
-        & (c == 0)
-        & (d == 0)
-    {
-        begin(o, destination, source, Body::REGISTER_REQ, timestamp);
-        lay(o, 20, 1, flag);
-        lay(o, 21, 1, pending);
-        return 0;
+    match body {
+        [flag @ (1 | 3), pending @ ..=0xFF, 0, 0, 0, 0] => {
+            h.begin(o, Body::REGISTER_REQ);
+            lay(o, 20, 1, flag);
+            lay(o, 21, 1, pending);
+            Ok(())
+        }
+        _ => Err(Reply::Range),
     }
-    refuse(o)
 }
 
-fn write_register(
-    o: &mut [u8],
-    destination: u64,
-    source: u64,
-    timestamp: u64,
-    flag: u64,
-    port: u64,
-    sync: u64,
-    pending: u64,
-    a: u64,
-    b: u64,
-) -> u8
-    requires { 60 ≤ length o.old }
-    ensures { write_left result o.new ≡ register_laid destination source timestamp flag port sync pending a b o.old }
+fn write_register(o: &mut Frame, h: Header, body: [u64; 6]) -> Result<(), Reply>
+    ensures { answered result o.new ≡ register_laid h body }
 {
-    if header_in(destination, source, timestamp)
-        & ((flag == 1) | (flag == 2) | (flag == 3) | (flag == 4))
-        & (port <= 0xFFFF)
-        & (sync <= 0xFFFF)
-        & (pending <= 0xFF)
-        & (a == 0)
-        & (b == 0)
-    {
-        begin(o, destination, source, Body::REGISTER, timestamp);
-        lay(o, 20, 2, port);
-        lay(o, 22, 1, flag);
-        lay(o, 23, 2, sync);
-        lay(o, 25, 1, pending);
-        return 0;
+    match body {
+        [
+            flag @ 1..=4,
+            port @ ..=0xFFFF,
+            sync @ ..=0xFFFF,
+            pending @ ..=0xFF,
+            0,
+            0,
+        ] => {
+            h.begin(o, Body::REGISTER);
+            lay(o, 20, 2, port);
+            lay(o, 22, 1, flag);
+            lay(o, 23, 2, sync);
+            lay(o, 25, 1, pending);
+            Ok(())
+        }
+        _ => Err(Reply::Range),
     }
-    refuse(o)
 }
 
-fn write_register_ack(
-    o: &mut [u8],
-    destination: u64,
-    source: u64,
-    timestamp: u64,
-    flag: u64,
-    port: u64,
-    sync: u64,
-    a: u64,
-    b: u64,
-    c: u64,
-) -> u8
-    requires { 60 ≤ length o.old }
-    ensures { write_left result o.new ≡ register_ack_laid destination source timestamp flag port sync a b c o.old }
+fn write_register_ack(o: &mut Frame, h: Header, body: [u64; 6]) -> Result<(), Reply>
+    ensures { answered result o.new ≡ register_ack_laid h body }
 {
-    if header_in(destination, source, timestamp)
-        & ((flag == 0) | (flag == 1))
-        & (port <= 0xFFFF)
-        & (sync <= 0xFFFF)
-        & (a == 0)
-        & (b == 0)
-        & (c == 0)
-    {
-        begin(o, destination, source, Body::REGISTER_ACK, timestamp);
-        lay(o, 20, 1, flag);
-        lay(o, 21, 2, port);
-        lay(o, 23, 2, sync);
-        return 0;
+    match body {
+        [flag @ ..=1, port @ ..=0xFFFF, sync @ ..=0xFFFF, 0, 0, 0] => {
+            h.begin(o, Body::REGISTER_ACK);
+            lay(o, 20, 1, flag);
+            lay(o, 21, 2, port);
+            lay(o, 23, 2, sync);
+            Ok(())
+        }
+        _ => Err(Reply::Range),
     }
-    refuse(o)
 }
 
 // By the kind of message.
-fn write_kind(
-    o: &mut [u8],
-    to: u64,
-    from: u64,
-    stamp: u64,
-    kind: u64,
-    a: u64,
-    b: u64,
-    c: u64,
-    d: u64,
-    e: u64,
-    f: u64,
-) -> u8
-    requires { 60 ≤ length o.old }
-    ensures { write_left result o.new ≡ written (writing_of (to ∷ from ∷ stamp ∷ kind ∷ a ∷ b ∷ c ∷ d ∷ e ∷ f ∷ [])) o.old }
+fn write_body(o: &mut Frame, h: Header, kind: u64, body: [u64; 6]) -> Result<(), Reply>
+    ensures { answered result o.new ≡ body_laid h kind body }
 {
-    if kind == 0 {
-        return write_gate(o, to, from, stamp, a, b, c, d, e, f);
+    match kind {
+        0 => write_gate(o, h, body),
+        1 => write_discovery(o, h, body),
+        2 => write_report(o, h, body),
+        3 => write_register_req(o, h, body),
+        4 => write_register(o, h, body),
+        5 => write_register_ack(o, h, body),
+        _ => Err(Reply::Range),
     }
-    if kind == 1 {
-        return write_discovery(o, to, from, stamp, a, b, c, d, e, f);
-    }
-    if kind == 2 {
-        return write_report(o, to, from, stamp, a, b, c, d, e, f);
-    }
-    if kind == 3 {
-        return write_register_req(o, to, from, stamp, a, b, c, d, e, f);
-    }
-    if kind == 4 {
-        return write_register(o, to, from, stamp, a, b, c, d, e, f);
-    }
-    if kind == 5 {
-        return write_register_ack(o, to, from, stamp, a, b, c, d, e, f);
-    }
-    refuse(o)
 }
 
-fn write_words(w: &[u64], o: &mut [u8]) -> u8
-    requires { (10 ≤ length w.now) × (60 ≤ length o.old) }
-    ensures { write_left result o.new ≡ written (writing_of (take 10 w.now)) o.old }
+fn write_message(w: &[u64; 10], o: &mut Frame) -> Result<(), Reply>
+    ensures { answered result o.new ≡ message_laid w.now }
 {
-    write_kind(
-        o, w[0], w[1], w[2], w[3], w[4], w[5], w[6], w[7], w[8], w[9],
-    )
+    let [destination, source, timestamp, kind, a, b, c, d, e, f] = *w;
+    let h = Header {
+        destination,
+        source,
+        timestamp,
+    };
+    if !h.is_in_range() {
+        return Err(Reply::Range);
+    }
+    write_body(o, h, kind, [a, b, c, d, e, f])
 }
 
 // The frame of the message that the words are the words of; else 4, and zeros.
 pub fn write(message: &[u64], octets: &mut [u8]) -> u8
     ensures { write_left result octets.new ≡ write_call message.now octets.old }
 {
-    if (WORDS <= message.len()) & (Message::OCTETS <= octets.len()) {
-        return write_words(message, octets);
+    let Some(w) = message.first_chunk() else {
+        return SHORT;
+    };
+    let Some(o) = octets.first_chunk_mut() else {
+        return SHORT;
+    };
+    match write_message(w, o) {
+        Ok(()) => Reply::Done.number(),
+        Err(reply) => {
+            *o = [0; Message::OCTETS];
+            reply.number()
+        }
     }
-    SHORT
 }

@@ -5,6 +5,8 @@ use Rattle.std.proofs.Common.{sym, ◌∙◌, ap, arith, add-zero, leb-true, len
 use Rattle.std.proofs.Math.Seq.{append_snoc}
 use Rattle.std.proofs.lemmas.List.{set_at}
 use Rattle.std.proofs.lemmas.List.Edits.{sets-eq}
+use Rattle.std.specs.Simd.{first_chunks}
+use Rattle.std.proofs.lemmas.List.{get_or-take}
 use Rattle.laws.specs.Cases.{either}
 use Rattle.head_links.specs.declared.Link.{Link}
 use Rattle.face_head.specs.Table.{link_words, link_in, five, words_at, table_words, links_of, links_in}
@@ -26,6 +28,27 @@ pub words-there : (ws : List ℕ) (k : ℕ)
     → words_at (drop k ws)
     ≡ record { address = get_or ws k 0; state = get_or ws (k + 1) 0; wait = get_or ws (k + 2) 0; watchdog = get_or ws (k + 3) 0; periodic = get_or ws (k + 4) 0 }
 words-there ws k = rw (get_or-drop k ws 0 0, get_or-drop k ws 1 0, get_or-drop k ws 2 0, get_or-drop k ws 3 0, get_or-drop k ws 4 0, add-zero k)
+
+-- those of a chunk of five
+chunk-at : (m n : ℕ) (ws : List ℕ) → m < n → get_or (first_chunks 5 n ws) m [] ≡ take 5 (drop (5 * m) ws)
+chunk-at m zero ws l = absurd (omega (arith, l))
+chunk-at zero (suc n) ws l = refl
+chunk-at (suc m) (suc n) ws l =
+    let further : 5 + 5 * m ≡ 5 * suc m = omega arith in
+    chunk-at m n (drop 5 ws) (omega (arith, l)) ∙ ap (take 5) (drop-drop (5 * m) 5 ws ∙ ap (λ (k : ℕ). drop k ws) further)
+
+words-front : (ws : List ℕ) → words_at (take 5 ws) ≡ words_at ws
+words-front ws =
+    rw (
+      get_or-take 5 ws 0 0 (omega arith),
+      get_or-take 5 ws 1 0 (omega arith),
+      get_or-take 5 ws 2 0 (omega arith),
+      get_or-take 5 ws 3 0 (omega arith),
+      get_or-take 5 ws 4 0 (omega arith),
+    )
+
+pub chunk-words : (m n : ℕ) (ws : List ℕ) → m < n → words_at (get_or (first_chunks 5 n ws) m []) ≡ words_at (drop (5 * m) ws)
+chunk-words m n ws l = ap words_at (chunk-at m n ws l) ∙ words-front (drop (5 * m) ws)
 
 -- stored there one after the other
 pub stored_there : (ws : List ℕ) (k : ℕ) (w : LinkWords) → k + 5 ≤ length ws

@@ -11,6 +11,8 @@ use prog.Routine.{Routine}
 use Rattle.laws.specs.Settles.{Settles, SettlesLent}
 use Rattle.lent.specs.Claims.{Claim, Promises, ClaimSettles}
 use Rattle.face_head.specs.Table.{loaded, stored}
+use Rattle.face_head.proofs.LinkWords.of.Kinds as words-of-kinds
+use Rattle.face_head.proofs.LinkWords.of.Reads as words-of
 use Rattle.face_head.proofs.head_in.Kinds as head-in-kinds
 use Rattle.face_head.proofs.head_in.Reads as head_in
 use Rattle.face_head.proofs.links_in.Kinds as links-in-kinds
@@ -21,6 +23,9 @@ use Rattle.face_head.proofs.pack_head.Reads as pack-head
 use Rattle.face_head.specs.contracts.store_links as store-links
 use Rattle.face_head.proofs.tell.Kinds as tell-kinds
 use Rattle.face_head.proofs.tell.Reads as tell
+
+pub words-of-settles : Settles 1 words-of-kinds.ps words-of-kinds.r words-of.Post
+words-of-settles κs a e x y p q = p ∙ sym q
 
 pub pack-head-settles : Settles 0 pack-head-kinds.ps pack-head-kinds.r pack-head.Post
 pack-head-settles κs a e x y p q = p ∙ sym q

@@ -35,6 +35,21 @@ pub struct LinkWords {
     pub periodic: u64,
 }
 
+impl LinkWords {
+    pub fn of(words: &[u64; 5]) -> LinkWords
+        ensures { result ≡ words_at words.now }
+    {
+        let [address, state, wait, watchdog, periodic] = *words;
+        LinkWords {
+            address,
+            state,
+            wait,
+            watchdog,
+            periodic,
+        }
+    }
+}
+
 fn window_words(window: Window) -> WindowWords
     ensures { result ≡ window_words window }
 {
@@ -46,12 +61,12 @@ fn window_words(window: Window) -> WindowWords
         },
         Window::Before { timer, length } => WindowWords {
             phase: 1,
-            left: timer.left as u64,
-            length: length.0 as u64,
+            left: u64::from(timer.left),
+            length: u64::from(length.0),
         },
         Window::Inside { timer } => WindowWords {
             phase: 2,
-            left: timer.left as u64,
+            left: u64::from(timer.left),
             length: 0,
         },
     }
@@ -61,31 +76,24 @@ fn window_words(window: Window) -> WindowWords
 fn window_of(w: WindowWords) -> Window
     ensures { result ≡ window_of w }
 {
-    let phase = w.phase;
-    let length = w.length;
     let timer = face_fields::timer_of(w.left);
-    if phase == 1 {
-        return Window::Before {
+    match w.phase {
+        1 => Window::Before {
             timer,
-            length: face_fields::quanta_of(length),
-        };
+            length: face_fields::quanta_of(w.length),
+        },
+        2 => Window::Inside { timer },
+        _ => Window::Idle,
     }
-    if phase == 2 {
-        return Window::Inside { timer };
-    }
-    Window::Idle
 }
 
 pub fn pack_head(h: Head) -> [u64; 5]
     ensures { result ≡ head_words h }
 {
-    let address = h.address;
-    let count = h.count;
-    let held = h.window;
-    let window = window_words(held);
+    let window = window_words(h.window);
     [
-        address.0,
-        count.0 as u64,
+        h.address.0,
+        u64::from(h.count.0),
         window.phase,
         window.left,
         window.length,
@@ -96,15 +104,15 @@ pub fn pack_head(h: Head) -> [u64; 5]
 fn head_of(w: [u64; 5]) -> Head
     ensures { result ≡ head_of w }
 {
-    let held = WindowWords {
-        phase: w[2],
-        left: w[3],
-        length: w[4],
-    };
+    let [address, count, phase, left, length] = w;
     Head {
-        address: Address(w[0]),
-        count: face_fields::count_of(w[1]),
-        window: window_of(held),
+        address: Address(address),
+        count: face_fields::count_of(count),
+        window: window_of(WindowWords {
+            phase,
+            left,
+            length,
+        }),
     }
 }
 
@@ -113,8 +121,7 @@ pub fn head_in(w: [u64; 5]) -> Head
     ensures { result ≡ head_in w }
 {
     let head = head_of(w);
-    let packed = pack_head(head);
-    if face_words::same(&packed, &w) {
+    if face_words::same(&pack_head(head), &w) {
         return head;
     }
     Head::begun(Address(0))
@@ -133,29 +140,22 @@ fn state_word(state: State) -> u64
 fn state_of(word: u64) -> State
     ensures { result ≡ state_of word }
 {
-    if word == 1 {
-        return State::Waiting;
+    match word {
+        1 => State::Waiting,
+        2 => State::Registered,
+        _ => State::Idle,
     }
-    if word == 2 {
-        return State::Registered;
-    }
-    State::Idle
 }
 
 fn link_words(l: Link) -> LinkWords
     ensures { result ≡ link_words l }
 {
-    let address = l.address;
-    let state = l.state;
-    let wait = l.wait;
-    let watchdog = l.watchdog;
-    let periodic = l.periodic;
     LinkWords {
-        address: address.0,
-        state: state_word(state),
-        wait: wait.left as u64,
-        watchdog: watchdog.left as u64,
-        periodic: periodic.left as u64,
+        address: l.address.0,
+        state: state_word(l.state),
+        wait: u64::from(l.wait.left),
+        watchdog: u64::from(l.watchdog.left),
+        periodic: u64::from(l.periodic.left),
     }
 }
 
@@ -182,13 +182,12 @@ fn five(w: LinkWords) -> [u64; 5]
 fn no_link() -> Link
     ensures { result ≡ no_link }
 {
-    let off = Timer::stopped();
     Link {
         address: Address(0),
         state: State::Idle,
-        wait: Timer { left: 0xFFFFFFFF },
-        watchdog: off,
-        periodic: off,
+        wait: Timer { left: u32::MAX },
+        watchdog: Timer::stopped(),
+        periodic: Timer::stopped(),
     }
 }
 
@@ -197,39 +196,18 @@ fn link_in(w: LinkWords) -> Link
     ensures { result ≡ link_in w }
 {
     let link = link_of(w);
-    let packed = five(link_words(link));
-    let told = five(w);
-    if face_words::same(&packed, &told) {
+    if face_words::same(&five(link_words(link)), &five(w)) {
         return link;
     }
     no_link()
 }
 
-// The link whose five words begin at a place.
-fn link_at(words: &[u64], at: usize) -> Link
-    requires { at + 5 ≤ length words.now }
-    ensures { result ≡ link_in (words_at (drop at words.now)) }
-{
-    let w = LinkWords {
-        address: words[at],
-        state: words[at + 1],
-        wait: words[at + 2],
-        watchdog: words[at + 3],
-        periodic: words[at + 4],
-    };
-    link_in(w)
-}
-
+// Over the five words at a place.
 fn put_link(words: &mut [u64], at: usize, l: Link)
     requires { at + 5 ≤ length words.old }
     ensures { words.new ≡ take at words.old ++ five (link_words l) ++ drop (at + 5) words.old }
 {
-    let w = link_words(l);
-    words[at] = w.address;
-    words[at + 1] = w.state;
-    words[at + 2] = w.wait;
-    words[at + 3] = w.watchdog;
-    words[at + 4] = w.periodic;
+    words[at..at + LINK].copy_from_slice(&five(link_words(l)));
 }
 
 // How many links so many words hold. More than a table may have are taken as none, which is no table either.
@@ -247,33 +225,16 @@ pub fn links_in(words: usize) -> usize
 fn both(words: usize, links: usize) -> usize
     ensures { result ≡ room_of words links }
 {
-    let held = words / LINK;
-    if held < links {
-        return held;
-    }
-    links
-}
-
-// The first n, as far as both have room for them.
-fn turns(n: usize, words: usize, links: usize) -> usize
-    ensures { result ≡ min n (room_of words links) }
-{
-    let most = both(words, links);
-    if n < most {
-        return n;
-    }
-    most
+    (words / LINK).min(links)
 }
 
 // The links in the words over the lent ones, as many as both have room for; links behind them stay.
 pub fn load_links(words: &[u64], links: &mut [Link])
     ensures { links.new ≡ loaded words.now links.old }
 {
-    let n = both(words.len(), links.len());
-    let mut i = 0;
-    while i < n {
-        links[i] = link_at(words, LINK * i);
-        i += 1;
+    let (table, _) = words.as_chunks();
+    for i in 0..both(words.len(), links.len()) {
+        links[i] = link_in(LinkWords::of(&table[i]));
     }
 }
 
@@ -281,11 +242,8 @@ pub fn load_links(words: &[u64], links: &mut [Link])
 pub fn store_links(links: &[Link], n: usize, words: &mut [u64])
     ensures { words.new ≡ stored links.now n words.old }
 {
-    let n = turns(n, words.len(), links.len());
-    let mut i = 0;
-    while i < n {
+    for i in 0..n.min(both(words.len(), links.len())) {
         put_link(words, LINK * i, links[i]);
-        i += 1;
     }
 }
 
@@ -306,11 +264,8 @@ fn sets_of(kind: Kind) -> Sets
     ensures { result ≡ sets_of kind }
 {
     match kind {
-        Kind::Nothing => Sets::NONE,
-        Kind::Request => Sets::NONE,
-        Kind::Registered => Sets::NONE,
-        Kind::Dropped => Sets::NONE,
         Kind::Report(sets) => sets,
+        _ => Sets::NONE,
     }
 }
 
@@ -318,23 +273,19 @@ fn sets_of(kind: Kind) -> Sets
 pub fn tell(answer: Answer, reply: &mut [u64])
     ensures { reply.new ≡ laid (told_words answer) reply.old }
 {
-    let notice = answer.notice;
-    let kind = notice.kind;
-    let trip = notice.trip;
     let frames = answer.frames as u64;
-    let word = kind_word(kind);
-    if word == 0 {
-        let quiet = [frames, 0];
-        face_words::lay(&quiet, reply);
+    let notice = answer.notice;
+    if let Kind::Nothing = notice.kind {
+        face_words::lay(&[frames, 0], reply);
         return;
     }
-    let sets = sets_of(kind);
+    let sets = sets_of(notice.kind);
     let words = [
         frames,
         1,
-        word,
+        kind_word(notice.kind),
         notice.link as u64,
-        trip.0 as u64,
+        u64::from(notice.trip.0),
         sets.first,
         sets.second,
         sets.third,

@@ -2,16 +2,19 @@
 -- Assumes nothing.
 use Prim.Native.Nat.{ℕ, zero, suc, ◌*◌, ◌/◌, ◌≤◌, min}
 use mathlib.Core.Path.{◌≡◌, refl, sym, ap, ◌∙◌}
-use mathlib.Core.Bool.{Bool, true, false, cond, ◌&&◌, false≢true}
+use mathlib.Core.Bool.{Bool, not, true, false, cond, ◌&&◌, false≢true}
 use mathlib.Core.List.{List, [], ◌∷◌, ◌++◌, append-nil}
 use native.Mathlib.Omega.{arith}
 use native.Mathlib.Nat.{le_refl, not-suc-le-zero, le_of_suc-le-suc}
 use borrow.Author.Tests.{leb-true}
+use denote.Enum.Bare.{sameb}
 use lib.Dec.{eqb, leb}
 use lib.ListN.{length, take, drop, replicate, length-replicate, drop_of_length-le}
 use lib.Seq.{take-length}
 use Rattle.clock.specs.Laws.{reach-parts}
 use Rattle.clock.specs.Numbers.{is_in_reach}
+use Rattle.frame.specs.contracts.Reply.{the_type}
+use Rattle.frame.specs.declared.Reply.{Reply}
 use Rattle.frame.specs.Card.{number_of}
 use Rattle.frame.specs.declared.Address.{Address}
 use Rattle.head_state.specs.Head.{after_of}
@@ -59,6 +62,45 @@ unfolding fresh_of
 length-cleared a xs = cleared_by (is_done (begun_of a (length xs)).reply) xs
 
 -- the first of a table of idle links
+-- a reply is done, or unsound, where its number says so
+pub same-done : (r : Reply) → sameb the_type r Reply.Done ≡ eqb (number_of r) 0
+same-done Reply.Done = refl
+same-done Reply.Size = refl
+same-done Reply.Kind = refl
+same-done Reply.Opcode = refl
+same-done Reply.Range = refl
+same-done Reply.Direction = refl
+same-done Reply.Link = refl
+same-done Reply.State = refl
+same-done Reply.Party = refl
+same-done Reply.Grant = refl
+same-done Reply.Held = refl
+same-done Reply.Full = refl
+same-done Reply.Output = refl
+same-done Reply.Unsound = refl
+same-done Reply.Window = refl
+
+pub same-unsound : (r : Reply) → sameb the_type r Reply.Unsound ≡ eqb (number_of r) 13
+same-unsound Reply.Done = refl
+same-unsound Reply.Size = refl
+same-unsound Reply.Kind = refl
+same-unsound Reply.Opcode = refl
+same-unsound Reply.Range = refl
+same-unsound Reply.Direction = refl
+same-unsound Reply.Link = refl
+same-unsound Reply.State = refl
+same-unsound Reply.Party = refl
+same-unsound Reply.Grant = refl
+same-unsound Reply.Held = refl
+same-unsound Reply.Full = refl
+same-unsound Reply.Output = refl
+same-unsound Reply.Unsound = refl
+same-unsound Reply.Window = refl
+
+pub turned : (b t : Bool) → not b ≡ t → b ≡ not t
+turned true t e = rw (← e)
+turned false t e = rw (← e)
+
 pub take-idle : (k m : ℕ) → k ≤ m → take k (replicate m idle) ≡ replicate k idle
 take-idle zero m l = refl
 take-idle (suc k) zero l = absurd (not-suc-le-zero l)
@@ -253,9 +295,9 @@ begun-whole o head links reply t n a head' links' reply' k lent taken few said l
     ∙ ap (λ (b : Bool). cond b (cleared made head links reply) (begun_left short head links reply)) (sym taken ∙ lent)
 
 -- a frame that the reader refused
-pub heard-refused : (link : ℕ) (octets head links output reply : List ℕ) (r : Reading) (n k : ℕ) (reply' : List ℕ)
-    → r ≡ read_of octets → n ≡ number_of r.reply → eqb n 0 ≡ false → told k reply' ≡ refused_of r.reply head reply
+pub heard-refused : (link : ℕ) (octets head links output reply : List ℕ) (r : Reading) (k : ℕ) (reply' : List ℕ)
+    → r ≡ read_of octets → eqb (number_of r.reply) 0 ≡ false → told k reply' ≡ refused_of r.reply head reply
     → left k head links output reply' ≡ heard_of link octets head links output reply
 unfolding heard_of
-heard-refused link octets head links output reply r n k reply' read number refuses tells =
-    ap (λ (u : Told). left u.number head links output u.reply) tells ∙ rw (← read, ← number, refuses)
+heard-refused link octets head links output reply r k reply' read refuses tells =
+    ap (λ (u : Told). left u.number head links output u.reply) tells ∙ rw (← read, refuses)

@@ -16,36 +16,32 @@ ghost use Rattle.face_words.specs.Words.{laid};
 
 use clock::Span;
 use face_words::SHORT;
-use frame::{Address, Reply};
+use frame::{Address, Message, Reply};
 use head_calls::Answer;
 use head_gating::Asked;
 use head_judging::Call;
 use head_links::Link;
 use head_state::Head;
 
-// A table of no allowed size.
-const UNSOUND: u8 = 13;
-
 // Words of a head, and of what a call of it tells.
 const HEAD: usize = 5;
 
 const REPLY: usize = 10;
 
-// Octets of a frame.
-const FRAME: usize = 60;
-
 // Up to so many links are few.
 const FEW: usize = 8;
+
+const MANY: usize = Link::MOST;
 
 // How many links a call lays back in the words: all where it is done, none where it is refused.
 fn kept(answer: Answer, links: usize) -> usize
     ensures { result ≡ kept_of answer links }
 {
-    let reply = answer.reply;
-    if reply.number() == 0 {
-        return links;
+    if answer.reply == Reply::Done {
+        links
+    } else {
+        0
     }
-    0
 }
 
 // The lent links are those in the words for as long as the call takes.
@@ -67,39 +63,26 @@ fn clear(address: Address, words: &mut [u64], links: &mut [Link]) -> Answer
     answer
 }
 
-fn few() -> [Link; 8]
-    ensures { result ≡ replicate 8 idle }
-{
-    [Link::idle(); 8]
-}
-
-fn many() -> [Link; 64]
-    ensures { result ≡ replicate 64 idle }
-{
-    [Link::idle(); 64]
-}
-
-fn lend_few(head: Head, words: &mut [u64], n: usize, call: Call, out: &mut [u8]) -> Answer
-    requires { n ≤ 8 }
+// A call that lends links of its own, which are made anew: n of the N that there is room for.
+fn lend_in<const N: usize>(
+    head: Head,
+    words: &mut [u64],
+    n: usize,
+    call: Call,
+    out: &mut [u8],
+) -> Answer
+    requires { (n ≤ N) × (N ≤ 64) }
     ensures { lend_left result words.new out.new ≡ lend_of head words.old (replicate n idle) call out.old }
 {
-    let mut table = few();
+    let mut table = [Link::idle(); N];
     lend(head, words, &mut table[..n], call, out)
 }
 
-fn lend_many(head: Head, words: &mut [u64], n: usize, call: Call, out: &mut [u8]) -> Answer
-    requires { n ≤ 64 }
-    ensures { lend_left result words.new out.new ≡ lend_of head words.old (replicate n idle) call out.old }
-{
-    let mut table = many();
-    lend(head, words, &mut table[..n], call, out)
-}
-
-fn clear_many(address: Address, words: &mut [u64], n: usize) -> Answer
+fn clear_all(address: Address, words: &mut [u64], n: usize) -> Answer
     requires { n ≤ 64 }
     ensures { clear_left result words.new ≡ clear_of address words.old (replicate n idle) }
 {
-    let mut table = many();
+    let mut table = [Link::idle(); MANY];
     clear(address, words, &mut table[..n])
 }
 
@@ -109,9 +92,9 @@ fn lend_all(head: Head, words: &mut [u64], n: usize, call: Call, out: &mut [u8])
     ensures { lend_left result words.new out.new ≡ lend_of head words.old (replicate n idle) call out.old }
 {
     if n <= FEW {
-        return lend_few(head, words, n, call, out);
+        return lend_in::<FEW>(head, words, n, call, out);
     }
-    lend_many(head, words, n, call, out)
+    lend_in::<MANY>(head, words, n, call, out)
 }
 
 fn is_lent(head: usize, reply: usize) -> bool
@@ -123,17 +106,14 @@ fn is_lent(head: usize, reply: usize) -> bool
 fn lay_head(answer: Answer, head: &mut [u64])
     ensures { head.new ≡ laid_head answer head.old }
 {
-    let next = answer.next;
-    let w = face_head::pack_head(next);
-    face_words::lay(&w, head);
+    face_words::lay(&face_head::pack_head(answer.next), head);
 }
 
 // A refused call leaves the block as it was, so that words that are no head's stay.
 fn keep_head(answer: Answer, head: &mut [u64])
     ensures { head.new ≡ kept_head answer head.old }
 {
-    let reply = answer.reply;
-    if reply.number() != 0 {
+    if answer.reply != Reply::Done {
         return;
     }
     lay_head(answer, head);
@@ -143,8 +123,7 @@ fn tell(answer: Answer, reply: &mut [u64]) -> u8
     ensures { told result reply.new ≡ told_of answer reply.old }
 {
     face_head::tell(answer, reply);
-    let number = answer.reply;
-    number.number()
+    answer.reply.number()
 }
 
 // The core's call of the head in the block, over the links that the words tell.
@@ -179,8 +158,7 @@ pub fn served(
 fn tell_nothing(reply: &mut [u64])
     ensures { reply.new ≡ laid (replicate 2 0) reply.old }
 {
-    let nothing = [0u64; 2];
-    face_words::lay(&nothing, reply);
+    face_words::lay(&[0; 2], reply);
 }
 
 // A frame that the reader refuses changes nothing, and nothing is told.
@@ -206,23 +184,20 @@ pub fn heard(
     ensures { left result head.new links.new out.new reply.new ≡ heard_of link octets.now head.old links.old out.old reply.old }
 {
     let reading = frame_reader::read(octets);
-    let why = reading.reply;
-    let message = reading.message;
-    if why.number() == 0 {
+    if reading.reply == Reply::Done {
+        let message = reading.message;
         return served(Call::Hear { link, message }, head, links, out, reply);
     }
-    refused(why, head, reply)
+    refused(reading.reply, head, reply)
 }
 
 // A table of no allowed size leaves the block as it was too; a head that is refused for its address holds address zero.
 fn lay_begun(answer: Answer, head: &mut [u64])
     ensures { head.new ≡ begun_head answer head.old }
 {
-    let reply = answer.reply;
-    if reply.number() == UNSOUND {
-        return;
+    if answer.reply != Reply::Unsound {
+        lay_head(answer, head);
     }
-    lay_head(answer, head);
 }
 
 // A head that has not begun, over as many links as the words hold.
@@ -231,7 +206,7 @@ pub fn begun(address: Address, head: &mut [u64], links: &mut [u64], reply: &mut 
 {
     if is_lent(head.len(), reply.len()) {
         let n = face_head::links_in(links.len());
-        let answer = clear_many(address, links, n);
+        let answer = clear_all(address, links, n);
         lay_begun(answer, head);
         return tell(answer, reply);
     }
@@ -242,10 +217,7 @@ pub fn begun(address: Address, head: &mut [u64], links: &mut [u64], reply: &mut 
 fn span_at(grants: &[u64], i: usize) -> Span
     ensures { result ≡ span_of (get_or grants.now i 0) }
 {
-    if i < grants.len() {
-        return face_fields::span_of(grants[i]);
-    }
-    face_fields::span_of(0)
+    face_fields::span_of(grants.get(i).copied().unwrap_or(0))
 }
 
 // What a gate request asks for, one word a grant.
@@ -266,22 +238,21 @@ pub fn asked(grants: &[u64], force: u8) -> Asked
 fn has_room(links: usize, octets: usize) -> bool
     ensures { result ≡ has_room (links_in links) octets }
 {
-    FRAME * face_head::links_in(links) <= octets
+    Message::OCTETS * face_head::links_in(links) <= octets
 }
 
 // One quantum has passed. A quiet tick is made in place.
 pub fn tick(head: &mut [u64], links: &mut [u64], out: &mut [u8], reply: &mut [u64]) -> u8
     ensures { left result head.new links.new out.new reply.new ≡ served_of Called.Tick head.old links.old out.old reply.old }
 {
-    if is_lent(head.len(), reply.len()) {
-        if has_room(links.len(), out.len()) {
-            if face_head_pass::is_quiet(head, links) {
-                face_head_pass::pass_head(head, 1);
-                face_head_pass::pass_links(links, 1);
-                tell_nothing(reply);
-                return 0;
-            }
-        }
+    if is_lent(head.len(), reply.len())
+        && has_room(links.len(), out.len())
+        && face_head_pass::is_quiet(head, links)
+    {
+        face_head_pass::pass_head(head, 1);
+        face_head_pass::pass_links(links, 1);
+        tell_nothing(reply);
+        return 0;
     }
     served(Call::Tick, head, links, out, reply)
 }
@@ -290,7 +261,7 @@ pub fn tick(head: &mut [u64], links: &mut [u64], out: &mut [u8], reply: &mut [u6
 pub fn ticks_until(head: &[u64], links: &[u64]) -> u64
     ensures { result ≡ until_call head.now links.now }
 {
-    face_head_pass::quiet(head, links) as u64
+    u64::from(face_head_pass::quiet(head, links))
 }
 
 // So many ticks, where each is quiet.
@@ -298,7 +269,7 @@ fn quiet_by(n: u64, head: &[u64], links: &[u64], out: usize) -> bool
     ensures { result ≡ quiet_by n head.now links.now out }
 {
     if clock::in_reach(n) & has_room(links.len(), out) {
-        return n <= face_head_pass::quiet(head, links) as u64;
+        return n <= u64::from(face_head_pass::quiet(head, links));
     }
     false
 }

@@ -8,6 +8,7 @@ use native.Mathlib.Omega.{arith}
 use borrow.Author.Tests.{eq-eqb, eqb-true, leb-true, le-leb, le-ltb}
 use lib.Dec.{eqb, leb}
 use lib.ListN.{length, take, get_or, set, replicate}
+use Rattle.std.proofs.lemmas.List.{get_or-take}
 use Rattle.clock.specs.Counts.{later_of}
 use Rattle.clock.specs.Laws.{runs-in}
 use Rattle.clock.specs.Numbers.{furthest}
@@ -153,6 +154,11 @@ head-is (a ∷ c ∷ p ∷ []) h = absurd (omega (arith, h))
 head-is (a ∷ c ∷ p ∷ l ∷ []) h = absurd (omega (arith, h))
 head-is (a ∷ c ∷ p ∷ l ∷ g ∷ ws) h =
     rw (at_words (a ∷ c ∷ p ∷ l ∷ g ∷ ws) h) (either_way (fitting a c p l g) (sound_of (head_in (words a c p l g))) (fits-sound a c p l g) (sound-fits a c p l g))
+
+-- its five words alone say whether it fits
+pub fits-front : (ws : List ℕ) → head_fits (take 5 ws) ≡ head_fits ws
+unfolding head_fits
+fits-front ws = rw (get_or-take 5 ws 0 0 (omega arith), get_or-take 5 ws 1 0 (omega arith), get_or-take 5 ws 2 0 (omega arith), get_or-take 5 ws 3 0 (omega arith), get_or-take 5 ws 4 0 (omega arith))
 
 -- of a sound head only the count moves where the window is idle
 pub passed-head : (ws : List ℕ) (k : ℕ) → 5 ≤ length ws → sound_of (head_at ws) ≡ true → passed_head ws k ≡ laid (head_words (after_of (head_at ws) k)) ws

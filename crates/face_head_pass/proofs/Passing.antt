@@ -21,12 +21,12 @@ use Rattle.head_links.specs.declared.Link.{Link}
 use Rattle.head_survey.specs.Facts.{is_few, are_all_sound, different, sound_table, quiet_all}
 use Rattle.face_words.specs.Laws.{laid-over}
 use Rattle.face_words.specs.Words.{laid}
-use Rattle.face_head_pass.specs.Judge.{link_words_at, head_fits, quiet_links}
+use Rattle.face_head_pass.specs.Judge.{table_of, head_fits, quiet_links}
 use Rattle.face_head_pass.specs.Passed.{less_of, passed_at, passed_to, passed_links, passed_head}
 use Rattle.face_head_pass.specs.Quiet.{head_at, quiet_of, until_call}
 use Rattle.face_head_pass.proofs.Heads.{head-is, passed-head}
 use Rattle.face_head_pass.proofs.Links.{Sounds}
-use Rattle.face_head_pass.proofs.Page.{last-sound, quiet-links-is}
+use Rattle.face_head_pass.proofs.Page.{snoc-sound, quiet-links-is}
 
 -- one link more at the end
 passed-more : (xs : List Link) (x : Link) (k : ℕ) → passed_all (xs ++ (x ∷ [])) k ≡ passed_all xs k ++ (passed_of x k ∷ [])
@@ -52,8 +52,8 @@ pub passed_is : (n : ℕ) (ws : List ℕ) (k : ℕ) → are_all_sound (links_of 
 unfolding passed_to passed_at links_of table_words
 passed_is zero ws k h = refl
 passed_is (suc n) ws k h =
-    let p = last-sound n ws h in
-    let w : LinkWords = link_words_at n ws in
+    let w : LinkWords = words_at (drop (5 * n) ws) in
+    let p = snoc-sound (links_of n ws) w (sym (ap are_all_sound (links-more n ws)) ∙ h) in
     let xs : List Link = links_of n ws in
     let t : List ℕ = table_words (passed_all xs k) in
     let now : List ℕ = passed_to n ws k in
@@ -89,7 +89,7 @@ module _ (head links : List ℕ) where
   unfolding until_call
   until-short h = rw (lt-leb 5 (length head) h)
 
-  until-is : 5 ≤ length head → until_call head links ≡ cond (head_fits head) (quiet_links links) 0
+  until-is : 5 ≤ length head → until_call head links ≡ cond (head_fits head) (quiet_links (table_of links)) 0
   unfolding until_call quiet_of
   until-is h = rw (le-leb 5 (length head) h, head-is head h, quiet-links-is links) (by-test (sound_of (head_at head)) (sound_table (links_at links)))
     where
@@ -97,7 +97,7 @@ module _ (head links : List ℕ) where
       by-test true t = refl
       by-test false t = refl
 
-  pub until-fits : 5 ≤ length head → head_fits head ≡ true → until_call head links ≡ quiet_links links
+  pub until-fits : 5 ≤ length head → head_fits head ≡ true → until_call head links ≡ quiet_links (table_of links)
   until-fits h e = until-is h ∙ rw e
 
   pub until-misfits : 5 ≤ length head → head_fits head ≡ false → until_call head links ≡ 0

@@ -2,20 +2,23 @@
 -- Assumes nothing.
 use Prim.Native.Nat.{ℕ, zero, suc, ◌+◌, ◌-◌, ◌≤◌, ◌<◌, min}
 use mathlib.Core.Path.{◌≡◌, refl, sym, ap, ◌∙◌}
-use mathlib.Core.Bool.{Bool, true, false, cond, not, ◌&&◌, ◌||◌, and-false}
-use mathlib.Core.List.{List}
+use mathlib.Core.Bool.{Bool, true, false, cond, not, ◌&&◌, ◌||◌, and-true, and-false}
+use mathlib.Core.List.{List, []}
 use mathlib.Core.Logic.{◌⊎◌, inl, inr, ⊎_elim}
 use native.Mathlib.Omega.{arith, mod_fact}
 use native.Mathlib.Nat.{add-zero}
-use borrow.Author.Tests.{eq-eqb, eqb-true, eqb-false}
-use lib.Dec.{eqb}
-use lib.ListN.{length, drop, get_or, set, length-set, length-append, length-take, length-drop}
+use native.Mathlib.Numerals.{add-one}
+use borrow.Author.Tests.{eq-eqb, ne_eqb, lt-ltb, eqb-true, eqb-false}
+use lib.Dec.{eqb, ltb}
+use lib.ListN.{length, take, drop, get_or, set, length-set, length-append, length-take, length-drop}
 use lib.Seq.{get_or-set_same, get_or-set_other, set-get_or, get_or-drop}
+use Rattle.std.specs.List.{list_any}
+use Rattle.std.proofs.lemmas.List.Folds.{list_any_more}
 use Rattle.laws.specs.Cases.{cut}
 use Rattle.face_head.proofs.Laws.{stored_there}
 use Rattle.face_head.specs.Table.{words_at}
 use Rattle.face_head.specs.declared.LinkWords.{LinkWords}
-use Rattle.face_head_pass.specs.Judge.{fits, near, still, link_words_at, address_at, nearest_to, still_to, place_of, holds_to, repeats_at, spotted, differ_to}
+use Rattle.face_head_pass.specs.Judge.{fits, near, link_words_at, address_at, nearest_to, place_of, holds_to, repeats_at, spotted, differ_to}
 use Rattle.face_head_pass.specs.Passed.{less_of, passed_at}
 
 near-zero : (w : LinkWords) → near w 0 ≡ 0
@@ -31,36 +34,27 @@ near-zero w = by_state (eqb w.state 2) (eqb w.state 1)
 last : (n i : ℕ) → i < suc n → (i < n) ⊎ (i ≡ n)
 last n i l = ⊎_elim (λ (h : i < n). inl h) (λ (h : n ≤ i). inr (omega arith)) (cut i n)
 
-module _ (ws : List ℕ) where
-  pub nearest-stop : (n i : ℕ) → i < n → fits (link_words_at i ws) ≡ false → nearest_to n ws ≡ 0
+module _ (ls : List (List ℕ)) where
+  pub nearest-stop : (n i : ℕ) → i < n → fits (link_words_at i ls) ≡ false → nearest_to n ls ≡ 0
   unfolding nearest_to
   nearest-stop zero i l h = absurd (omega arith)
   nearest-stop (suc n) i l h =
       ⊎_elim
-      (λ (k : i < n). by-fit (fits (link_words_at n ws)) (nearest-stop n i k h))
-      (λ (k : i ≡ n). ap (λ (j : ℕ). cond (fits (link_words_at j ws)) (near (link_words_at j ws) (nearest_to j ws)) 0) (sym k) ∙ rw h)
+      (λ (k : i < n). by-fit (fits (link_words_at n ls)) (nearest-stop n i k h))
+      (λ (k : i ≡ n). ap (λ (j : ℕ). cond (fits (link_words_at j ls)) (near (link_words_at j ls) (nearest_to j ls)) 0) (sym k) ∙ rw h)
       (last n i l)
     where
-      by-fit : (t : Bool) → nearest_to n ws ≡ 0 → cond t (near (link_words_at n ws) (nearest_to n ws)) 0 ≡ 0
-      by-fit true e = rw e (near-zero (link_words_at n ws))
+      by-fit : (t : Bool) → nearest_to n ls ≡ 0 → cond t (near (link_words_at n ls) (nearest_to n ls)) 0 ≡ 0
+      by-fit true e = rw e (near-zero (link_words_at n ls))
       by-fit false e = refl
 
-  pub still-stop : (n i : ℕ) → i < n → still (link_words_at i ws) ≡ false → still_to n ws ≡ false
-  unfolding still_to
-  still-stop zero i l h = absurd (omega arith)
-  still-stop (suc n) i l h =
-      ⊎_elim
-      (λ (k : i < n). rw (still-stop n i k h))
-      (λ (k : i ≡ n). rw (ap (λ (j : ℕ). still (link_words_at j ws)) (sym k) ∙ h) (and-false (still_to n ws)))
-      (last n i l)
-
-  pub differ-stop : (n i : ℕ) → i < n → repeats_at i ws ≡ true → differ_to n ws ≡ false
+  pub differ-stop : (n i : ℕ) → i < n → repeats_at i ls ≡ true → differ_to n ls ≡ false
   unfolding differ_to
   differ-stop zero i l h = absurd (omega arith)
   differ-stop (suc n) i l h =
       ⊎_elim
       (λ (k : i < n). rw (differ-stop n i k h))
-      (λ (k : i ≡ n). by_before (differ_to n ws) (repeats_at n ws) (ap (λ (j : ℕ). repeats_at j ws) (sym k) ∙ h))
+      (λ (k : i ≡ n). by_before (differ_to n ls) (repeats_at n ls) (ap (λ (j : ℕ). repeats_at j ls) (sym k) ∙ h))
       (last n i l)
     where
       by_before : (a b : Bool) → b ≡ true → (a && not b) ≡ false
@@ -68,53 +62,63 @@ module _ (ws : List ℕ) where
       by_before false b e = refl
 
   -- one link alone repeats none
-  pub differ-one : (n : ℕ) → n ≤ 1 → differ_to n ws ≡ true
+  pub differ-one : (n : ℕ) → n ≤ 1 → differ_to n ls ≡ true
   unfolding differ_to holds_to
   differ-one zero l = refl
   differ-one (suc zero) l = refl
   differ-one (suc (suc n)) l = absurd (omega (arith, l))
 
-  pub holds-found : (n j a : ℕ) → j < n → address_at j ws ≡ a → holds_to n ws a ≡ true
-  unfolding holds_to
-  holds-found zero j a l h = absurd (omega arith)
-  holds-found (suc n) j a l h =
-      ⊎_elim
-      (λ (k : j < n). rw (holds-found n j a k h))
-      (λ (k : j ≡ n). by_before (holds_to n ws a) (eq-eqb (address_at n ws) a (ap (λ (i : ℕ). address_at i ws) (sym k) ∙ h)))
-      (last n j l)
-    where
-      by_before : (b : Bool) → eqb (address_at n ws) a ≡ true → (b || eqb (address_at n ws) a) ≡ true
-      by_before true e = refl
-      by_before false e = e
-
-  -- a search for the address of link i has not come to i yet
-  pub short-of : (i j a : ℕ) → j ≤ i → address_at i ws ≡ a → (address_at j ws ≡ a → ⊥) → suc j ≤ i
-  short-of i j a l e f =
-      ⊎_elim (λ (h : j < i). h) (λ (h : i ≤ j). let k : j ≡ i = omega (arith, l, h) in absurd (f (ap (λ (n : ℕ). address_at n ws) k ∙ e))) (cut j i)
+-- a search among the first n
+pub holds-any : (ls : List (List ℕ)) (n a : ℕ) → n ≤ length ls → list_any (λ w. eqb (get_or w 0 0) a) (take n ls) ≡ holds_to n ls a
+unfolding holds_to
+holds-any ls zero a h = refl
+holds-any ls (suc n) a h =
+    let has : List ℕ → Bool = λ w. eqb (get_or w 0 0) a in
+    ap (λ (k : ℕ). list_any has (take k ls)) (sym (add-one n))
+    ∙ list_any_more has ls n [] h
+    ∙ ap (λ (t : Bool). t || eqb (address_at n ls) a) (holds-any ls n a (omega (arith, h)))
 
 -- each link before i has left its mark
-abbrev pub Covered : List ℕ → List ℕ → ℕ → Type 0
-Covered ms ws i = (j : ℕ) → j < i → get_or ms (place_of (address_at j ws) (length ms)) 0 ≡ 1
+abbrev pub Covered : List ℕ → List (List ℕ) → ℕ → Type 0
+Covered ms ls i = (j : ℕ) → j < i → get_or ms (place_of (address_at j ls) (length ms)) 0 ≡ 1
 
-unmet : (ms ws : List ℕ) (i a : ℕ) → Covered ms ws i → get_or ms (place_of a (length ms)) 0 ≡ 0 → holds_to i ws a ≡ false
+unmet : (ms : List ℕ) (ls : List (List ℕ)) (i a : ℕ) → Covered ms ls i → get_or ms (place_of a (length ms)) 0 ≡ 0 → holds_to i ls a ≡ false
 unfolding holds_to
-unmet ms ws zero a c h = refl
-unmet ms ws (suc i) a c h = rw (unmet ms ws i a (λ j l. c j (omega arith)) h) (by-test (eqb (address_at i ws) a) refl)
+unmet ms ls zero a c h = refl
+unmet ms ls (suc i) a c h = rw (unmet ms ls i a (λ j l. c j (omega arith)) h) (by-test (eqb (address_at i ls) a) refl)
   where
-    by-test : (t : Bool) → eqb (address_at i ws) a ≡ t → t ≡ false
+    by-test : (t : Bool) → eqb (address_at i ls) a ≡ t → t ≡ false
     by-test true e =
-        let one : get_or ms (place_of a (length ms)) 0 ≡ 1 = ap (λ (x : ℕ). get_or ms (place_of x (length ms)) 0) (sym (eqb-true (address_at i ws) a e)) ∙ c i (omega arith) in
+        let one : get_or ms (place_of a (length ms)) 0 ≡ 1 = ap (λ (x : ℕ). get_or ms (place_of x (length ms)) 0) (sym (eqb-true (address_at i ls) a e)) ∙ c i (omega arith) in
         absurd (omega (arith, one, h))
     by-test false e = refl
 
 -- the search behind the marks finds what a search among all before i would
-pub spared : (ms ws : List ℕ) (i : ℕ) → Covered ms ws i → spotted ms ws i ≡ repeats_at i ws
+pub spared : (ms : List ℕ) (ls : List (List ℕ)) (i : ℕ) → Covered ms ls i → spotted ms ls i ≡ repeats_at i ls
 unfolding spotted
-spared ms ws i c = by-test (eqb (get_or ms (place_of (address_at i ws) (length ms)) 0) 0) refl
+spared ms ls i c = by-test (eqb (get_or ms (place_of (address_at i ls) (length ms)) 0) 0) refl
   where
-    by-test : (t : Bool) → eqb (get_or ms (place_of (address_at i ws) (length ms)) 0) 0 ≡ t → cond t false (repeats_at i ws) ≡ repeats_at i ws
-    by-test true e = sym (rw (unmet ms ws i (address_at i ws) c (eqb-true _ 0 e)))
+    by-test : (t : Bool) → eqb (get_or ms (place_of (address_at i ls) (length ms)) 0) 0 ≡ t → cond t false (repeats_at i ls) ≡ repeats_at i ls
+    by-test true e = sym (rw (unmet ms ls i (address_at i ls) c (eqb-true _ 0 e)))
     by-test false e = refl
+
+-- the three ways of a turn
+module _ (ms : List ℕ) (ls : List (List ℕ)) (i : ℕ) where
+  pub spotted-unmet : get_or ms (place_of (address_at i ls) (length ms)) 0 ≡ 0 → spotted ms ls i ≡ false
+  unfolding spotted
+  spotted-unmet e = rw (eq-eqb _ 0 e)
+
+  pub spotted-idle : address_at i ls ≡ 0 → spotted ms ls i ≡ false
+  unfolding spotted
+  spotted-idle e = rw e (by-mark (eqb (get_or ms (place_of 0 (length ms)) 0) 0))
+    where
+      by-mark : (t : Bool) → cond t false (holds_to i ls 0 && ltb 0 0) ≡ false
+      by-mark true = refl
+      by-mark false = and-false (holds_to i ls 0)
+
+  pub spotted-met : (get_or ms (place_of (address_at i ls) (length ms)) 0 ≡ 0 → ⊥) → (address_at i ls ≡ 0 → ⊥) → spotted ms ls i ≡ holds_to i ls (address_at i ls)
+  unfolding spotted
+  spotted-met e f = rw (ne_eqb _ 0 e, lt-ltb 0 (address_at i ls) (omega (arith, f))) (and-true (holds_to i ls (address_at i ls)))
 
 pub place-lt : (a marks : ℕ) → 1 ≤ marks → place_of a marks < marks
 unfolding place_of
@@ -122,17 +126,17 @@ place-lt a zero h = absurd (omega arith)
 place-lt a (suc k) h = mod_fact _ k
 
 -- one mark more
-pub covered_more : (ms ws : List ℕ) (i : ℕ) → place_of (address_at i ws) (length ms) < length ms → Covered ms ws i
-    → Covered (set ms (place_of (address_at i ws) (length ms)) 1) ws (suc i)
-covered_more ms ws i h c j l = rw length-set (by-test (eqb (place_of (address_at j ws) (length ms)) (place_of (address_at i ws) (length ms))) refl)
+pub covered_more : (ms : List ℕ) (ls : List (List ℕ)) (i : ℕ) → place_of (address_at i ls) (length ms) < length ms → Covered ms ls i
+    → Covered (set ms (place_of (address_at i ls) (length ms)) 1) ls (suc i)
+covered_more ms ls i h c j l = rw length-set (by-test (eqb (place_of (address_at j ls) (length ms)) (place_of (address_at i ls) (length ms))) refl)
   where
-    by-test : (t : Bool) → eqb (place_of (address_at j ws) (length ms)) (place_of (address_at i ws) (length ms)) ≡ t
-        → get_or (set ms (place_of (address_at i ws) (length ms)) 1) (place_of (address_at j ws) (length ms)) 0 ≡ 1
-    by-test true e = ap (λ (k : ℕ). get_or (set ms (place_of (address_at i ws) (length ms)) 1) k 0) (eqb-true _ _ e) ∙ get_or-set_same ms (place_of (address_at i ws) (length ms)) 1 0 h
+    by-test : (t : Bool) → eqb (place_of (address_at j ls) (length ms)) (place_of (address_at i ls) (length ms)) ≡ t
+        → get_or (set ms (place_of (address_at i ls) (length ms)) 1) (place_of (address_at j ls) (length ms)) 0 ≡ 1
+    by-test true e = ap (λ (k : ℕ). get_or (set ms (place_of (address_at i ls) (length ms)) 1) k 0) (eqb-true _ _ e) ∙ get_or-set_same ms (place_of (address_at i ls) (length ms)) 1 0 h
     by-test false e =
-        get_or-set_other ms (place_of (address_at i ws) (length ms)) (place_of (address_at j ws) (length ms)) 1 0 (eqb-false _ _ e)
+        get_or-set_other ms (place_of (address_at i ls) (length ms)) (place_of (address_at j ls) (length ms)) 1 0 (eqb-false _ _ e)
         ∙ ⊎_elim (λ (k : j < i). c j k)
-        (λ (k : j ≡ i). absurd (eqb-false _ _ e (ap (λ (n : ℕ). place_of (address_at n ws) (length ms)) k)))
+        (λ (k : j ≡ i). absurd (eqb-false _ _ e (ap (λ (n : ℕ). place_of (address_at n ls) (length ms)) k)))
         (last i j l)
 
 -- the three timers stored one after the other

@@ -1,5 +1,6 @@
 -- What a call of the box leaves in the caller's memory, by how the core's call comes out.
 -- Assumes nothing.
+use Rattle.std.proofs.Common.{Option, None, Some}
 use Prim.Native.Nat.{ℕ, zero, suc, ◌≤◌}
 use mathlib.Core.Path.{◌≡◌, refl, ap, ◌∙◌}
 use mathlib.Core.Bool.{Bool, true, false, ◌&&◌, and-eq-true_iff}
@@ -10,6 +11,7 @@ use lib.Dec.{eqb, leb}
 use lib.IntN.{ℤ}
 use lib.ListN.{length, drop, get_or}
 use lib.Seq.{take_at, drop_at}
+use Rattle.frame.specs.declared.Body.{Body}
 use Rattle.laws.specs.Cases.{either}
 use Rattle.face_box.specs.Box.{box_words}
 use Rattle.face_box.specs.Laws.{told-length}
@@ -21,8 +23,6 @@ use Rattle.head_table.specs.Laws.{written-sixty}
 use Rattle.box_telling.specs.Told.{no_frames, handed}
 use Rattle.box_telling.specs.declared.Frames.{Frames}
 use Rattle.box_telling.specs.declared.Notices.{Notices}
-use Rattle.box_telling.specs.declared.Sent.{Sent}
-use Rattle.box_telling.specs.declared.Sent.TheVariants.{Nothing, Is}
 use Rattle.box_calls.specs.Answer.{message_of, framed, accepted}
 use Rattle.box_calls.specs.declared.Answer.{Answer}
 use Rattle.box_calls.specs.declared.FloorBox.{FloorBox}
@@ -48,9 +48,9 @@ handed-sixties f os s h =
     either Sixties (eqb f.number 0) _ _ (λ _. record { few = omega arith; first = h; second = s.second })
     (λ _. either Sixties (eqb f.number 1) _ _ (λ _. record { few = omega arith; first = s.first; second = h }) (λ _. s))
 
-framed-sixties : (own : Address) (now : Count) (f : Frames) (sent : Sent) → Sixties f → Sixties (framed own now f sent)
-framed-sixties own now f Nothing s = s
-framed-sixties own now f (Is body) s = handed-sixties f _ s (written-sixty (message_of own now body))
+framed-sixties : (own : Address) (now : Count) (f : Frames) (sent : Option Body) → Sixties f → Sixties (framed own now f sent)
+framed-sixties own now f None s = s
+framed-sixties own now f (Some body) s = handed-sixties f _ s (written-sixty (message_of own now body))
 
 pub no-sixties : Sixties no_frames
 no-sixties = record { few = omega arith; first = refl; second = refl }

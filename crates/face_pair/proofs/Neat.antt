@@ -1,5 +1,6 @@
 -- What every call of the box keeps beside its soundness: the port fits its type, and nothing stands behind the list in its array.
 -- Assumes nothing.
+use Rattle.std.proofs.Common.{Option, None, Some}
 use Prim.Native.Nat.{ℕ, ◌^◌, ◌≤◌, ◌<◌}
 use mathlib.Core.Path.{◌≡◌, refl, sym, ap, subst}
 use mathlib.Core.Bool.{Bool, ◌&&◌}
@@ -14,8 +15,6 @@ use Rattle.clock.specs.Counts.{reach, next_of}
 use Rattle.clock.specs.Numbers.{start_in_range, serves, needed}
 use Rattle.clock.specs.Timers.{ticked}
 use Rattle.clock.specs.declared.Quanta.{Quanta}
-use Rattle.clock.specs.declared.Reach.{Reach}
-use Rattle.clock.specs.declared.Reach.TheVariants.{Past, Ahead}
 use Rattle.clock.specs.declared.Span.{Span}
 use Rattle.frame.specs.Layout.{listed}
 use Rattle.frame.specs.Range.{BodyTyped}
@@ -28,8 +27,6 @@ use Rattle.box_grants.specs.Activation.{ahead, remove, settle}
 use Rattle.box_grants.specs.Keeps.{listed-room, remove-shorter, settle-shorter}
 use Rattle.box_grants.specs.Laws.{push-packed, ahead-shorter, Packs}
 use Rattle.box_grants.specs.Listed.{list_of, packed, pushed, choose_of}
-use Rattle.box_grants.specs.declared.Chosen.{Chosen}
-use Rattle.box_grants.specs.declared.Chosen.TheVariants.{Nothing, Due}
 use Rattle.box_grants.specs.declared.GrantList.{GrantList}
 use Rattle.box_light.specs.Light.{is_at_rest}
 use Rattle.box_light.specs.Tick.{tick_of as light_tick}
@@ -100,13 +97,13 @@ begin-packs : (p : Processes) (e : Span) (sync wait : Quanta) → Packs p.list �
 unfolding begin light_up
 begin-packs p e sync wait w = either (λ (q : Processes). Packs q.list) (eqb wait.0 0) _ _ (λ _. without-packs p.list e) (λ _. w)
 
-head-packs : (r : Reach) (p : Processes) (e : Span) (sync : Quanta) → Packs p.list → Packs (head_for p e sync r).list
-head-packs Past p e sync w = w
-head-packs (Ahead wait) p e sync w = begin-packs p e sync wait w
+head-packs : (r : Option Quanta) (p : Processes) (e : Span) (sync : Quanta) → Packs p.list → Packs (head_for p e sync r).list
+head-packs None p e sync w = w
+head-packs (Some wait) p e sync w = begin-packs p e sync wait w
 
-serve-packs : (c : Chosen) (p : Processes) → Packs p.list → Packs (serve c p).list
-serve-packs Nothing p w = w
-serve-packs (Due e) p w = head-packs (reach p.count.0 e.start.0) p e p.registration.sync w
+serve-packs : (c : Option Span) (p : Processes) → Packs p.list → Packs (serve c p).list
+serve-packs None p w = w
+serve-packs (Some e) p w = head-packs (reach p.count.0 e.start.0) p e p.registration.sync w
 
 activate-packs : (p : Processes) → Packs p.list → Packs (activate p).list
 unfolding activate

@@ -5,4 +5,4 @@ use Rattle.face_box_calls.proofs.count_ticks.Goals as goal
 
 pub returns : goal.returns
 unfolding advanced_of
-returns c = rw (c.lay_word.ensures, c.settle.ensures, c.advance-advanced.ensures, c.load-b.ensures)
+returns c = rw (c.lay_word.ensures, c.settle.ensures, c.advance-advanced.ensures, c.load.ensures)

@@ -1,41 +1,29 @@
 -- `face_box_calls::next_to_send` meets its promise.
 -- Assumes nothing.
-use borrow.Author.Tests.{lt-ltb, le-ltb, eq-eqb, ne_eqb}
+use Rattle.std.proofs.Common.{arith}
+use Rattle.std.proofs.lemmas.Bool.Decides.{nat_tests}
+use Rattle.std.proofs.lemmas.Grind.{common_steps}
 use Rattle.face_box_calls.specs.Calls.{next_call}
 use Rattle.face_box_calls.proofs.next_to_send.Goals as goal
 
 pub returns-then-block-lt-BOX : goal.returns-then-block-lt-BOX
 unfolding next_call
-returns-then-block-lt-BOX c = rw (lt-ltb _ _ c.if-block-lt-BOX.true)
+returns-then-block-lt-BOX c = grind (arith, nat_tests, common_steps)
 
-pub returns-then-sent-eq0 : goal.returns-then-sent-eq0
+pub returns-then-is_empty : goal.returns-then-is_empty
 unfolding next_call
-returns-then-sent-eq0 c =
-    rw (
-      le-ltb _ _ c.if-block-lt-BOX.false,
-      ← c.load-b.ensures,
-      ← c.next_to_send-sent.ensures.1,
-      eq-eqb _ _ c.if-sent-eq0.true,
-    )
+returns-then-is_empty c =
+    let sent = c.next_to_send.ensures.1 in
+    rw (← c.load.ensures, ← sent) (grind (arith, nat_tests, common_steps, c.if-is_empty.ensures))
 
-pub returns-then-control-gt0 : goal.returns-then-control-gt0
+pub returns-then-not-is_empty : goal.returns-then-not-is_empty
 unfolding next_call
-returns-then-control-gt0 c =
-    rw (
-      le-ltb _ _ c.if-block-lt-BOX.false,
-      ← c.load-b.ensures,
-      ← c.next_to_send-sent.ensures.1,
-      ne_eqb _ _ c.if-sent-eq0.false,
-      lt-ltb _ _ c.if-control-gt0.true,
-    )
+returns-then-not-is_empty c =
+    let sent = c.next_to_send.ensures.1 in
+    rw (← c.load.ensures, ← sent) (grind (arith, nat_tests, common_steps, c.if-is_empty.ensures, c.if-not-is_empty.ensures))
 
 pub returns : goal.returns
 unfolding next_call
 returns c =
-    rw (
-      le-ltb _ _ c.if-block-lt-BOX.false,
-      ← c.load-b.ensures,
-      ← c.next_to_send-sent.ensures.1,
-      ne_eqb _ _ c.if-sent-eq0.false,
-      le-ltb _ _ c.if-control-gt0.false,
-    )
+    let sent = c.next_to_send.ensures.1 in
+    rw (← c.load.ensures, ← sent) (grind (arith, nat_tests, common_steps, c.if-is_empty.ensures, c.if-not-is_empty.ensures))

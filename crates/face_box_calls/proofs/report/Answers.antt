@@ -13,8 +13,8 @@ returns-then-is_lent c =
     rw (
       c.settle.ensures,
       c.report.ensures,
-      c.asked-asked.ensures,
-      c.load-b.ensures,
+      c.asked.ensures,
+      c.load.ensures,
       ← c.is_lent.ensures,
       c.if-is_lent.true,
     )

@@ -22,7 +22,7 @@ returns-then-is_lent c =
     rw (
       c.settle.ensures,
       c.tick.ensures,
-      c.load-b.ensures,
+      c.load.ensures,
       ← c.is_lent.ensures,
       c.if-is_lent.true,
     )

@@ -1,25 +1,21 @@
 -- `face_box_pass::judged` meets its promise.
 -- Assumes nothing.
-use borrow.Author.Tests.{eq-eqb, ne_eqb}
+use Rattle.std.proofs.Common.{◌≡◌, ◌∙◌, ◌&&◌, ap, arith, drop, get_or, eqb}
+use Rattle.std.proofs.lemmas.Bool.Decides.{nat_tests}
+use Rattle.std.proofs.lemmas.Grind.{common_steps}
+use Rattle.face_box.specs.Box.{is_clear}
+use Rattle.face_box_pass.proofs.Walks.{behind, clear_from}
 use Rattle.face_box_pass.specs.Judging.{judged_of}
 use Rattle.face_box_pass.proofs.judged.Goals as goal
 
-pub returns-then-phase-ne0 : goal.returns-then-phase-ne0
+pub returns-then-is_clear : goal.returns-then-is_clear
 unfolding judged_of
-returns-then-phase-ne0 c = rw (c.least.ensures, c.shines.ensures, ← c.is_own.ensures, c.if-is_own.true, ← c.times-t.ensures, ne_eqb _ _ c.if-phase-ne0.true)
+returns-then-is_clear c =
+    let clear : c.is_clear.result ≡ (eqb (get_or c.args.b.now 9 0) 0 && is_clear (drop 10 c.args.b.now)) = c.is_clear.ensures ∙ ap is_clear (behind 9 c.args.b.now c.told-b) ∙ clear_from 9 c.args.b.now (omega arith) in
+    grind (arith, nat_tests, common_steps)
 
-pub returns-then-are_clear : goal.returns-then-are_clear
+pub returns : goal.returns
 unfolding judged_of
-returns-then-are_clear c = rw (← c.is_own.ensures, c.if-is_own.true, ← c.times-t.ensures, eq-eqb _ _ c.if-phase-ne0.false, eq-eqb _ _ c.if-b-eq0.true, ← c.are_clear.ensures, c.if-are_clear.true)
-
-pub returns-else-are_clear : goal.returns-else-are_clear
-unfolding judged_of
-returns-else-are_clear c = rw (← c.is_own.ensures, c.if-is_own.true, ← c.times-t.ensures, eq-eqb _ _ c.if-phase-ne0.false, eq-eqb _ _ c.if-b-eq0.true, ← c.are_clear.ensures, c.if-are_clear.false)
-
-pub returns-else-b-eq0 : goal.returns-else-b-eq0
-unfolding judged_of
-returns-else-b-eq0 c = rw (← c.is_own.ensures, c.if-is_own.true, ← c.times-t.ensures, eq-eqb _ _ c.if-phase-ne0.false, ne_eqb _ _ c.if-b-eq0.false)
-
-pub returns-else-is_own : goal.returns-else-is_own
-unfolding judged_of
-returns-else-is_own c = rw (← c.is_own.ensures, c.if-is_own.false)
+returns c =
+    let clear : c.is_clear.result ≡ (eqb (get_or c.args.b.now 9 0) 0 && is_clear (drop 10 c.args.b.now)) = c.is_clear.ensures ∙ ap is_clear (behind 9 c.args.b.now c.told-b) ∙ clear_from 9 c.args.b.now (omega arith) in
+    grind (arith, nat_tests, common_steps)

@@ -1,38 +1,23 @@
 -- `face_frame_read::read` meets its promise.
 -- Assumes nothing.
-use borrow.Author.Tests.{eq-eqb, ne_eqb, lt-ltb, le-ltb}
-use Rattle.frame_reader.specs.Decode.{read_of}
+use borrow.Author.Tests.{lt-ltb, le-ltb}
 use Rattle.face_frame.specs.Message.{message_words}
 use Rattle.face_frame_read.specs.Read.{read_call}
+use Rattle.face_frame_read.proofs.Words.{told-frame}
 use Rattle.face_frame_read.proofs.read.Goals as goal
 
-pub returns-then-message-lt-WORDS : goal.returns-then-message-lt-WORDS
+pub returns-in_default : goal.returns-in_default
 unfolding read_call
-returns-then-message-lt-WORDS c = rw (lt-ltb _ _ c.if-message-lt-WORDS.true)
+returns-in_default c = rw (lt-ltb _ _ c.in_default.ensures.cases)
 
-pub returns-then-octets-ne-OCTETS : goal.returns-then-octets-ne-OCTETS
-unfolding read_call read_of message_words
-returns-then-octets-ne-OCTETS c =
-    rw (c.refuse.ensures, le-ltb _ _ c.if-message-lt-WORDS.false, ne_eqb _ _ c.if-octets-ne-OCTETS.true)
+pub returns-in-Ok : goal.returns-in-Ok
+unfolding read_call
+returns-in-Ok c =
+    let whole = c.in-Some.ensures.cases in
+    rw (le-ltb _ _ whole.enough, c.number.ensures, told-frame, ← c.in-Ok.ensures)
 
-pub returns-then-field-ne-KIND : goal.returns-then-field-ne-KIND
-unfolding read_call read_of message_words
-returns-then-field-ne-KIND c =
-    rw (
-      c.refuse-then-field-ne-KIND.ensures,
-      le-ltb _ _ c.if-message-lt-WORDS.false,
-      eq-eqb _ _ c.if-octets-ne-OCTETS.false,
-      ← c.field.ensures.value,
-      ne_eqb _ _ c.if-field-ne-KIND.true,
-    )
-
-pub returns : goal.returns
-unfolding read_call read_of
-returns c =
-    rw (
-      c.read_control.ensures,
-      le-ltb _ _ c.if-message-lt-WORDS.false,
-      eq-eqb _ _ c.if-octets-ne-OCTETS.false,
-      ← c.field.ensures.value,
-      eq-eqb _ _ c.if-field-ne-KIND.false,
-    )
+pub returns-in-Err : goal.returns-in-Err
+unfolding read_call message_words
+returns-in-Err c =
+    let whole = c.in-Some.ensures.cases in
+    rw (le-ltb _ _ whole.enough, c.number-in-Err.ensures, told-frame, ← c.in-Err.ensures)

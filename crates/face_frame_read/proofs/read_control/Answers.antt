@@ -1,38 +1,33 @@
 -- `face_frame_read::read_control` meets its promise.
 -- Assumes nothing.
+use native.Mathlib.Omega.{arith}
 use Rattle.frame.specs.Reading.{body_in_range}
-use Rattle.frame_reader.specs.Decode.{read_control, message_at, body_at}
-use Rattle.face_frame.specs.Message.{message_words}
-use Rattle.face_frame_read.proofs.Words.{sourced-ranged, no-opcode}
+use Rattle.frame_reader.specs.Decode.{message_at, body_at}
+use Rattle.face_frame_read.specs.Steps.{control_read}
+use Rattle.face_frame_read.proofs.Words.{no-opcode}
 use Rattle.face_frame_read.proofs.read_control.Goals as goal
 
-pub returns-then-opcode-eq-GATE : goal.returns-then-opcode-eq-GATE
-unfolding read_control body_in_range message_at body_at
-returns-then-opcode-eq-GATE c =
-    rw (c.read_gate.ensures, sourced-ranged, ← c.field-opcode.ensures.value, c.if-opcode-eq-GATE.true)
+pub returns-in-2 : goal.returns-in-2
+unfolding control_read body_in_range message_at body_at
+returns-in-2 c = rw (c.read_gate.ensures, ← c.field.ensures.value, c.in-2.is)
 
-pub returns-then-opcode-eq-REPORT : goal.returns-then-opcode-eq-REPORT
-unfolding read_control body_in_range message_at body_at
-returns-then-opcode-eq-REPORT c =
-    rw (c.read_report.ensures, sourced-ranged, ← c.field-opcode.ensures.value, c.if-opcode-eq-REPORT.true)
+pub returns-in-3 : goal.returns-in-3
+unfolding control_read body_in_range message_at body_at
+returns-in-3 c = rw (c.read_report.ensures, ← c.field.ensures.value, c.in-3.is)
 
-pub returns-then-opcode-eq-REGISTER_REQ : goal.returns-then-opcode-eq-REGISTER_REQ
-unfolding read_control body_in_range message_at body_at
-returns-then-opcode-eq-REGISTER_REQ c =
-    rw (c.read_register_req.ensures, sourced-ranged, ← c.field-opcode.ensures.value, c.if-opcode-eq-REGISTER_REQ.true)
+pub returns-in-4 : goal.returns-in-4
+unfolding control_read body_in_range message_at body_at
+returns-in-4 c = rw (c.read_register_req.ensures, ← c.field.ensures.value, c.in-4.is)
 
-pub returns-then-opcode-eq-REGISTER : goal.returns-then-opcode-eq-REGISTER
-unfolding read_control body_in_range message_at body_at
-returns-then-opcode-eq-REGISTER c =
-    rw (c.read_register.ensures, sourced-ranged, ← c.field-opcode.ensures.value, c.if-opcode-eq-REGISTER.true)
+pub returns-in-5 : goal.returns-in-5
+unfolding control_read body_in_range message_at body_at
+returns-in-5 c = rw (c.read_register.ensures, ← c.field.ensures.value, c.in-5.is)
 
-pub returns-then-opcode-eq-REGISTER_ACK : goal.returns-then-opcode-eq-REGISTER_ACK
-unfolding read_control body_in_range message_at body_at
-returns-then-opcode-eq-REGISTER_ACK c =
-    rw (c.read_register_ack.ensures, sourced-ranged, ← c.field-opcode.ensures.value, c.if-opcode-eq-REGISTER_ACK.true)
+pub returns-in-6 : goal.returns-in-6
+unfolding control_read body_in_range message_at body_at
+returns-in-6 c = rw (c.read_register_ack.ensures, ← c.field.ensures.value, c.in-6.is)
 
-pub returns : goal.returns
-unfolding read_control message_words
-returns c =
-    let none = no-opcode _ c.if-opcode-eq-GATE.false c.if-opcode-eq-REPORT.false c.if-opcode-eq-REGISTER_REQ.false c.if-opcode-eq-REGISTER.false c.if-opcode-eq-REGISTER_ACK.false in
-    rw (c.refuse.ensures, ← c.field-opcode.ensures.value, none)
+pub returns-in_default : goal.returns-in_default
+unfolding control_read
+returns-in_default c =
+    rw (← c.field.ensures.value, no-opcode c.field.result (λ low high. omega arith))

@@ -1,20 +1,18 @@
 -- `face_frame_read::read_register` meets its promise.
 -- Assumes nothing.
-use mathlib.Core.Path.{ap}
-use mathlib.Core.Bool.{and-false}
-use Rattle.face_frame.specs.Laws.{four-tests}
-use Rattle.face_frame.specs.Message.{message_words}
-use Rattle.face_frame_read.specs.Steps.{sourced}
-use Rattle.face_frame_read.proofs.Words.{sourced-ranged, register-words}
+use native.Mathlib.Omega.{arith}
+use Rattle.frame_reader.specs.Decode.{register_at}
+use Rattle.face_frame_read.proofs.Words.{register-words}
 use Rattle.face_frame_read.proofs.read_register.Goals as goal
 
-pub returns-then-flag : goal.returns-then-flag
-returns-then-flag c =
-    let a = c.args in
-    rw (c.take.ensures, c.field-pending.ensures.value, c.field-sync.ensures.value, c.field-flag.ensures.value, c.field-port.ensures.value)
-    (ap (sourced a.s.now a.m.now) (register-words a.s.now a.m.now (rw (← c.field-flag.ensures.value, four-tests) c.if-flag.true)))
-
-pub returns : goal.returns
-unfolding message_words
-returns c =
-    rw (c.refuse.ensures, sourced-ranged, ← c.field-flag.ensures.value, four-tests, c.if-flag.false, and-false)
+pub returns-in-1-to-4 : goal.returns-in-1-to-4
+unfolding register_at
+returns-in-1-to-4 c =
+    rw (
+      c.take.ensures,
+      ← c.field-pending.ensures.value,
+      ← c.field-sync.ensures.value,
+      ← c.field-flag.ensures.value,
+      ← c.field-port.ensures.value,
+    )
+    (register-words c.args.s.now c.field-flag.result _ _ _ (omega arith) (omega arith))

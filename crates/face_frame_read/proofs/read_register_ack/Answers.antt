@@ -1,20 +1,17 @@
 -- `face_frame_read::read_register_ack` meets its promise.
 -- Assumes nothing.
-use mathlib.Core.Path.{ap}
-use mathlib.Core.Bool.{and-false}
-use Rattle.face_frame.specs.Laws.{two-tests}
-use Rattle.face_frame.specs.Message.{message_words}
-use Rattle.face_frame_read.specs.Steps.{sourced}
-use Rattle.face_frame_read.proofs.Words.{sourced-ranged, register-ack-words}
+use native.Mathlib.Omega.{arith}
+use Rattle.frame_reader.specs.Decode.{register_ack_at}
+use Rattle.face_frame_read.proofs.Words.{register-ack-words}
 use Rattle.face_frame_read.proofs.read_register_ack.Goals as goal
 
-pub returns-then-flag : goal.returns-then-flag
-returns-then-flag c =
-    let a = c.args in
-    rw (c.take.ensures, c.field-sync.ensures.value, c.field-port.ensures.value, c.field-flag.ensures.value)
-    (ap (sourced a.s.now a.m.now) (register-ack-words a.s.now a.m.now (rw (← c.field-flag.ensures.value, two-tests) c.if-flag.true)))
-
-pub returns : goal.returns
-unfolding message_words
-returns c =
-    rw (c.refuse.ensures, sourced-ranged, ← c.field-flag.ensures.value, two-tests, c.if-flag.false, and-false)
+pub returns-in-0-to-1 : goal.returns-in-0-to-1
+unfolding register_ack_at
+returns-in-0-to-1 c =
+    rw (
+      c.take.ensures,
+      ← c.field-sync.ensures.value,
+      ← c.field-port.ensures.value,
+      ← c.field-flag.ensures.value,
+    )
+    (register-ack-words c.args.s.now c.field-flag.result _ _ (omega arith))

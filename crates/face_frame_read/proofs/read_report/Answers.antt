@@ -1,34 +1,41 @@
 -- `face_frame_read::read_report` meets its promise.
 -- Assumes nothing.
 use mathlib.Core.Path.{◌≡◌, ap, ◌∙◌}
-use mathlib.Core.Bool.{true, and-false}
+use mathlib.Core.Bool.{true}
 use native.Mathlib.Omega.{arith}
 use borrow.Author.Tests.{le-leb, lt-leb}
 use lib.Dec.{leb}
-use lib.ListN.{drop, length-drop}
-use Rattle.octets.specs.Laws.{rest, octets-drop}
-use Rattle.octets.specs.Octets.{Octets}
+use Prim.Native.Nat.{ℕ}
+use mathlib.Core.List.{List}
+use borrow.Rule.Slice.PartMut.{mid_of}
+use lib.ListN.{length, take, drop, length-drop}
+use lib.Seq.{take_all}
+use Rattle.std.proofs.Common.{rules}
+use Rattle.octets.specs.Laws.{octets-drop}
 use Rattle.frame_queues.specs.Laws.{forty-sets}
 use Rattle.frame_queues.specs.Queues.{used_of, cut_of, forty_of, sets_of}
-use Rattle.face_frame.specs.Message.{message_words}
-use Rattle.face_frame_read.specs.Steps.{sourced}
-use Rattle.face_frame_read.proofs.Words.{sourced-ranged, report-words}
+use Rattle.frame_reader.specs.Decode.{report_at}
 use Rattle.face_frame_read.proofs.read_report.Goals as goal
 
-pub returns-then-u-le-BODY : goal.returns-then-u-le-BODY
-returns-then-u-le-BODY c =
+body-part : (l : List ℕ) → length l ≡ 60 → mid_of 20 40 l ≡ drop 20 l
+body-part l h =
+    let mid : mid_of 20 40 l ≡ take 40 (drop 20 l) = search rules in
+    mid ∙ take_all 40 (drop 20 l) (simp length-drop (omega arith))
+
+pub returns-then-used-le-BODY : goal.returns-then-used-le-BODY
+unfolding report_at
+returns-then-used-le-BODY c =
     let l = c.args.s.now in
-    let m = c.args.m.now in
-    let octets : Octets l = λ j. (c.shared_slice_known-1.given j).fits in
-    let back : forty_of (sets_of (drop 20 l)) ≡ drop 20 l = forty-sets (drop 20 l) (octets-drop 20 l octets) (simp length-drop (omega arith)) in
-    let used : c.used-u.result ≡ used_of (drop 20 l) = c.used-u.ensures ∙ ap used_of (rest 20 l) in
-    let cut : c.cut-t.result ≡ sets_of (cut_of (drop 20 l)) = c.cut-t.ensures ∙ rw (used, c.of-sets.ensures, rest 20 l, back) in
-    let room : leb (used_of (drop 20 l)) 40 ≡ true = le-leb (used_of (drop 20 l)) 40 (rw used at c.if-u-le-BODY.true) in
-    rw c.take.ensures (ap (sourced l m) (report-words l m c.cut-t.result room cut))
+    let part : mid_of 20 40 l ≡ drop 20 l = body-part l c.told-s in
+    let back : forty_of (sets_of (drop 20 l)) ≡ drop 20 l = forty-sets (drop 20 l) (octets-drop 20 l c.fits-s) (simp length-drop (omega arith)) in
+    let used : c.used-used.result ≡ used_of (drop 20 l) = c.used-used.ensures ∙ ap used_of part in
+    let cut : c.cut-t.result ≡ sets_of (cut_of (drop 20 l)) = c.cut-t.ensures ∙ rw (used, c.of.ensures, part, back) in
+    let room : leb (used_of (drop 20 l)) 40 ≡ true = le-leb (used_of (drop 20 l)) 40 (rw used at c.if-used-le-BODY.true) in
+    rw (c.take.ensures, room, cut)
 
 pub returns : goal.returns
-unfolding message_words
 returns c =
     let l = c.args.s.now in
-    let used : c.used-u.result ≡ used_of (drop 20 l) = c.used-u.ensures ∙ ap used_of (rest 20 l) in
-    rw (c.refuse.ensures, sourced-ranged, lt-leb (used_of (drop 20 l)) 40 (rw used at c.if-u-le-BODY.false), and-false)
+    let part : mid_of 20 40 l ≡ drop 20 l = body-part l c.told-s in
+    let used : c.used-used.result ≡ used_of (drop 20 l) = c.used-used.ensures ∙ ap used_of part in
+    rw (lt-leb (used_of (drop 20 l)) 40 (rw used at c.if-used-le-BODY.false))

@@ -1,24 +1,43 @@
 -- `face_frame_write::write` meets its promise.
 -- Assumes nothing.
-use mathlib.Core.Bool.{and-eq-true_iff}
-use borrow.Author.Tests.{leb-true}
-use lib.Dec.{leb}
+use borrow.Author.Tests.{le-leb, lt-leb}
 use Rattle.face_frame_write.specs.Write.{write_call}
-use lib.ListN.{length}
+use Rattle.face_frame_write.proofs.Gate.{told-message}
 use Rattle.face_frame_write.proofs.write.Goals as goal
 
-pub write_words-requires : goal.write_words-requires
-write_words-requires c =
-    let a = c.args in
-    let words = length a.message.now in
-    let octets = length a.octets.now in
-    let both = (and-eq-true_iff (leb 10 words) (leb 60 octets)).0 c.if-message-octets.true in
-    (leb-true 10 words both.0, leb-true 60 octets both.1)
-
-pub returns-then-message-octets : goal.returns-then-message-octets
+pub returns-in_default : goal.returns-in_default
 unfolding write_call
-returns-then-message-octets c = rw (c.write_words.ensures, c.if-message-octets.true)
+returns-in_default c = rw (lt-leb 10 _ c.in_default.ensures.cases)
 
-pub returns : goal.returns
+pub returns-in_default-first_chunk_mut : goal.returns-in_default-first_chunk_mut
 unfolding write_call
-returns c = rw c.if-message-octets.false
+returns-in_default-first_chunk_mut c =
+    rw (le-leb 10 _ c.in-Some.ensures.cases.enough, lt-leb 60 _ c.in_default-first_chunk_mut.ensures.cases)
+
+pub returns-in-Ok : goal.returns-in-Ok
+unfolding write_call
+returns-in-Ok c =
+    let words = c.in-Some.ensures.cases in
+    let frame = c.in-Some-first_chunk_mut.ensures.cases in
+    rw (
+      le-leb 10 _ words.enough,
+      le-leb 60 _ frame.enough,
+      c.number.ensures,
+      told-message c.args.message.now c.args.octets.now words.enough,
+      ← words.same,
+      ← c.in-Ok.ensures,
+    )
+
+pub returns-in-Err : goal.returns-in-Err
+unfolding write_call
+returns-in-Err c =
+    let words = c.in-Some.ensures.cases in
+    let frame = c.in-Some-first_chunk_mut.ensures.cases in
+    rw (
+      le-leb 10 _ words.enough,
+      le-leb 60 _ frame.enough,
+      c.number-in-Err.ensures,
+      told-message c.args.message.now c.args.octets.now words.enough,
+      ← words.same,
+      ← c.in-Err.ensures,
+    )

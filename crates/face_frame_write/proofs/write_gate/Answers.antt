@@ -1,27 +1,18 @@
 -- `face_frame_write::write_gate` meets its promise.
 -- Assumes nothing.
 use Rattle.octets.specs.Octets.{onto}
-use Rattle.face_frame_write.specs.Steps.{gate_laid}
 use Rattle.face_frame_write.proofs.write_gate.Goals as goal
 
-pub returns-then-header_in-gate_in : goal.returns-then-header_in-gate_in
-unfolding onto gate_laid
-returns-then-header_in-gate_in c =
-    rw (
-      c.lay_grants.ensures,
-      c.lay.ensures,
-      c.begin.ensures,
-      ← c.header_in.ensures,
-      ← c.gate_in.ensures,
-      c.if-header_in-gate_in.true,
-    )
-
 pub returns : goal.returns
-unfolding gate_laid
+unfolding onto
 returns c =
     rw (
-      c.refuse.ensures,
-      ← c.header_in.ensures,
+      c.lay_grant-4.ensures,
+      c.lay_grant-3.ensures,
+      c.lay_grant-2.ensures,
+      c.lay_grant.ensures,
+      c.lay.ensures,
+      c.begin.ensures,
       ← c.gate_in.ensures,
-      c.if-header_in-gate_in.false,
+      c.if-not-gate_in.false,
     )

@@ -1,27 +1,14 @@
 -- `face_frame_write::write_register` meets its promise.
 -- Assumes nothing.
+use mathlib.Core.Path.{◌≡◌}
+use mathlib.Core.Bool.{true}
+use Rattle.std.proofs.Common.{rules}
 use Rattle.octets.specs.Octets.{onto}
-use Rattle.face_frame_write.specs.Steps.{register_laid}
+use Rattle.face_frame_write.specs.Steps.{register_in}
 use Rattle.face_frame_write.proofs.write_register.Goals as goal
 
-pub returns-then-header_in-flag : goal.returns-then-header_in-flag
-unfolding onto register_laid
-returns-then-header_in-flag c =
-    rw (
-      c.lay-then-header_in-flag-3.ensures,
-      c.lay-then-header_in-flag-2.ensures,
-      c.lay-then-header_in-flag.ensures,
-      c.lay.ensures,
-      c.begin.ensures,
-      ← c.header_in.ensures,
-      c.if-header_in-flag.true,
-    )
-
-pub returns : goal.returns
-unfolding register_laid
-returns c =
-    rw (
-      c.refuse.ensures,
-      ← c.header_in.ensures,
-      c.if-header_in-flag.false,
-    )
+pub returns-in-1-to-4 : goal.returns-in-1-to-4
+unfolding onto
+returns-in-1-to-4 c =
+    let passed : register_in c.args.body ≡ true = search rules in
+    rw (c.lay-in-1-to-4-3.ensures, c.lay-in-1-to-4-2.ensures, c.lay-in-1-to-4.ensures, c.lay.ensures, c.begin.ensures, passed)

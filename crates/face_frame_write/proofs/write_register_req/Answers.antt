@@ -1,25 +1,14 @@
 -- `face_frame_write::write_register_req` meets its promise.
 -- Assumes nothing.
+use mathlib.Core.Path.{◌≡◌}
+use mathlib.Core.Bool.{true}
+use Rattle.std.proofs.Common.{rules}
 use Rattle.octets.specs.Octets.{onto}
-use Rattle.face_frame_write.specs.Steps.{register_req_laid}
+use Rattle.face_frame_write.specs.Steps.{register_req_in}
 use Rattle.face_frame_write.proofs.write_register_req.Goals as goal
 
-pub returns-then-header_in-flag : goal.returns-then-header_in-flag
-unfolding onto register_req_laid
-returns-then-header_in-flag c =
-    rw (
-      c.lay-then-header_in-flag.ensures,
-      c.lay.ensures,
-      c.begin.ensures,
-      ← c.header_in.ensures,
-      c.if-header_in-flag.true,
-    )
-
-pub returns : goal.returns
-unfolding register_req_laid
-returns c =
-    rw (
-      c.refuse.ensures,
-      ← c.header_in.ensures,
-      c.if-header_in-flag.false,
-    )
+pub returns-in-1 : goal.returns-in-1
+unfolding onto
+returns-in-1 c =
+    let passed : register_req_in c.args.body ≡ true = search rules in
+    rw (c.lay-in-1.ensures, c.lay.ensures, c.begin.ensures, passed)

@@ -1,29 +1,33 @@
 -- `face_frame_write::write_report` meets its promise.
 -- Assumes nothing.
-use mathlib.Core.Path.{◌≡◌, sym, ap, ◌∙◌}
-use borrow.Author.Tests.{eq-eqb, ne_eqb}
-use Rattle.frame_queues.specs.Laws.{same-sets}
+use Prim.Native.Nat.{ℕ}
+use mathlib.Core.Path.{◌≡◌, ap, sym, ◌∙◌}
+use mathlib.Core.Bool.{true}
+use mathlib.Core.List.{List}
+use native.Mathlib.Omega.{arith}
+use Rattle.frame_queues.proofs.Fitting.{fit-sets}
+use Rattle.frame_queues.specs.Laws.{none-fit}
 use Rattle.frame_queues.specs.Queues.{no_sets}
-use Rattle.frame_queues.specs.declared.Sets.{Sets}
-use Rattle.face_frame_write.specs.Steps.{sets_laid, report_laid}
-use Rattle.face_frame_write.proofs.Sets.{empty-laid}
+use Rattle.face_frame.specs.Tells.{at}
+use Rattle.face_frame_write.specs.Steps.{sets_in, laid_out}
+use Rattle.face_frame_write.proofs.Sets.{no-words, empty, laid-tested}
 use Rattle.face_frame_write.proofs.write_report.Goals as goal
 
-pub returns-then-f-ne0 : goal.returns-then-f-ne0
-unfolding report_laid
-returns-then-f-ne0 c = rw (c.refuse.ensures, ne_eqb _ _ c.if-f-ne0.true)
+pub returns-then-eq : goal.returns-then-eq
+returns-then-eq c =
+    let w = c.args.body in
+    let sixth : at w 5 ≡ 0 = omega arith in
+    let none : sets_in w ≡ no_sets = no-words (at w 0) (at w 1) (at w 2) (at w 3) (at w 4) (sym c.eq.ensures ∙ c.if-eq.true) in
+    rw (c.begin.ensures, sixth, none, fit-sets no_sets none-fit) (ap (λ (f : List ℕ). laid_out true f) (empty c.args.h))
 
-pub returns-then-a-b : goal.returns-then-a-b
-unfolding report_laid
-returns-then-a-b c =
-    let a = c.args in
-    let sets : Sets = record { first = a.a; second = a.b; third = a.c; fourth = a.d; fifth = a.e } in
-    let none : sets ≡ no_sets = same-sets sets no_sets c.if-a-b.true in
-    rw (c.write_empty.ensures, eq-eqb _ _ c.if-f-ne0.false)
-    (empty-laid a.destination a.source a.timestamp a.o.now
-    ∙ ap (λ (x : Sets). sets_laid a.destination a.source a.timestamp x a.o.now) (sym none))
+pub returns-then-not-ends : goal.returns-then-not-ends
+returns-then-not-ends c =
+    let sixth : at c.args.body 5 ≡ 0 = omega arith in
+    let p = laid-tested c.args.h (sets_in c.args.body) _ _ _ (rw c.begin.ensures at c.lay_sets.ensures) c.used-used.ensures c.ends.ensures in
+    rw (sixth, ← p.1, c.if-not-ends.true)
 
 pub returns : goal.returns
-unfolding report_laid
 returns c =
-    rw (c.write_sets.ensures, eq-eqb _ _ c.if-f-ne0.false)
+    let sixth : at c.args.body 5 ≡ 0 = omega arith in
+    let p = laid-tested c.args.h (sets_in c.args.body) _ _ _ (rw c.begin.ensures at c.lay_sets.ensures) c.used-used.ensures c.ends.ensures in
+    rw (p.0, sixth, ← p.1, c.if-not-ends.false)

@@ -22,10 +22,10 @@ is-in w l u p t b link packed listed told found =
 pub returns-then-same : goal.returns-then-same
 returns-then-same c =
     rw c.if-same.true at
-    (is-in _ _ _ _ _ _ c.link_of-link.ensures c.link_words.ensures c.five-packed.ensures c.five-told.ensures c.same.ensures)
+    (is-in _ _ _ _ _ _ c.link_of-link.ensures c.link_words.ensures c.five.ensures c.five-2.ensures c.same.ensures)
 
 pub returns : goal.returns
 returns c =
     c.no_link.ensures
     ∙ rw c.if-same.false at
-    (is-in _ _ _ _ _ _ c.link_of-link.ensures c.link_words.ensures c.five-packed.ensures c.five-told.ensures c.same.ensures)
+    (is-in _ _ _ _ _ _ c.link_of-link.ensures c.link_words.ensures c.five.ensures c.five-2.ensures c.same.ensures)

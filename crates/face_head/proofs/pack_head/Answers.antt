@@ -5,4 +5,4 @@ use Rattle.face_head.proofs.pack_head.Goals as goal
 
 pub returns : goal.returns
 unfolding head_words
-returns c = rw c.window_words-window.ensures
+returns c = rw (c.window_words-window.ensures, c.from.ensures)

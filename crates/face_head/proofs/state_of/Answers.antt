@@ -1,17 +1,20 @@
 -- `face_head::state_of` meets its promise.
 -- Assumes nothing.
-use borrow.Author.Tests.{eq-eqb, ne_eqb}
+use Rattle.std.proofs.Common.{arith}
+use borrow.Author.Tests.{ne_eqb}
 use Rattle.face_head.specs.Table.{state_of}
 use Rattle.face_head.proofs.state_of.Goals as goal
 
-pub returns-then-word-eq1 : goal.returns-then-word-eq1
+pub returns-in-1 : goal.returns-in-1
 unfolding state_of
-returns-then-word-eq1 c = rw (eq-eqb _ _ c.if-word-eq1.true)
+returns-in-1 c = rw c.in-1.is
 
-pub returns-then-word-eq2 : goal.returns-then-word-eq2
+pub returns-in-2 : goal.returns-in-2
 unfolding state_of
-returns-then-word-eq2 c = rw (ne_eqb _ _ c.if-word-eq1.false, eq-eqb _ _ c.if-word-eq2.true)
+returns-in-2 c = rw c.in-2.is
 
-pub returns : goal.returns
+pub returns-in_default : goal.returns-in_default
 unfolding state_of
-returns c = rw (ne_eqb _ _ c.if-word-eq1.false, ne_eqb _ _ c.if-word-eq2.false)
+returns-in_default c =
+    let n = c.args.word in
+    rw (ne_eqb n 1 (λ e. omega (arith, e)), ne_eqb n 2 (λ e. omega (arith, e)))

@@ -1,14 +1,25 @@
 -- `face_head::tell` meets its promise.
 -- Assumes nothing.
-use borrow.Author.Tests.{eq-eqb, ne_eqb}
-use Rattle.face_head.specs.Told.{told_words, notice_words}
+use Rattle.std.proofs.Common.{◌≡◌, refl, false}
+use lib.Dec.{eqb}
+use Rattle.face_head.specs.Told.{kind_word, told_words, notice_words}
+use Rattle.head_plans.specs.declared.Kind.{Kind}
+use Rattle.head_plans.specs.declared.Kind.TheVariants.{Nothing, Request, Registered, Dropped, Report}
 use Rattle.face_head.proofs.tell.Goals as goal
 
-pub returns-then-word-eq0 : goal.returns-then-word-eq0
+-- each kind but the first has a word above 0
+something : (k : Kind) → (k ≡ Nothing → ⊥) → eqb (kind_word k) 0 ≡ false
+something Nothing h = absurd (h refl)
+something Request h = refl
+something Registered h = refl
+something Dropped h = refl
+something (Report sets) h = refl
+
+pub returns-in-Nothing : goal.returns-in-Nothing
 unfolding told_words notice_words
-returns-then-word-eq0 c = rw (c.lay.ensures, ← c.kind_word-word.ensures, eq-eqb _ _ c.if-word-eq0.true)
+returns-in-Nothing c = rw (c.lay.ensures, c.in-Nothing.is)
 
 pub returns : goal.returns
 unfolding told_words notice_words
 returns c =
-    rw (c.lay-2.ensures, c.sets_of-sets.ensures, ← c.kind_word-word.ensures, ne_eqb _ _ c.if-word-eq0.false)
+    rw (c.lay-2.ensures, c.sets_of-sets.ensures, c.from.ensures, c.kind_word.ensures, something _ c.in_default.not-Nothing)

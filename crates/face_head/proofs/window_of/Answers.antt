@@ -1,17 +1,20 @@
 -- `face_head::window_of` meets its promise.
 -- Assumes nothing.
-use borrow.Author.Tests.{eq-eqb, ne_eqb}
+use Rattle.std.proofs.Common.{arith}
+use borrow.Author.Tests.{ne_eqb}
 use Rattle.face_head.specs.Head.{window_of}
 use Rattle.face_head.proofs.window_of.Goals as goal
 
-pub returns-then-phase-eq1 : goal.returns-then-phase-eq1
+pub returns-in-1 : goal.returns-in-1
 unfolding window_of
-returns-then-phase-eq1 c = rw (c.quanta_of.ensures, ← c.timer_of-timer.ensures, eq-eqb _ _ c.if-phase-eq1.true)
+returns-in-1 c = rw (c.timer_of-timer.ensures, c.quanta_of.ensures, c.in-1.is)
 
-pub returns-then-phase-eq2 : goal.returns-then-phase-eq2
+pub returns-in-2 : goal.returns-in-2
 unfolding window_of
-returns-then-phase-eq2 c = rw (← c.timer_of-timer.ensures, ne_eqb _ _ c.if-phase-eq1.false, eq-eqb _ _ c.if-phase-eq2.true)
+returns-in-2 c = rw (c.timer_of-timer.ensures, c.in-2.is)
 
-pub returns : goal.returns
+pub returns-in_default : goal.returns-in_default
 unfolding window_of
-returns c = rw (← c.timer_of-timer.ensures, ne_eqb _ _ c.if-phase-eq1.false, ne_eqb _ _ c.if-phase-eq2.false)
+returns-in_default c =
+    let n = c.args.w.phase in
+    rw (ne_eqb n 1 (λ e. omega (arith, e)), ne_eqb n 2 (λ e. omega (arith, e)))

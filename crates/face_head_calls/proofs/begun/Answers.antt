@@ -5,8 +5,8 @@ use Rattle.face_head_calls.proofs.Words.{begun-whole}
 use Rattle.face_head_calls.specs.Calls.{begun_of}
 use Rattle.face_head_calls.proofs.begun.Goals as goal
 
-pub clear_many-answer-requires : goal.clear_many-answer-requires
-clear_many-answer-requires c = rw c.links_in-n.ensures (links-few _).0
+pub clear_all-answer-requires : goal.clear_all-answer-requires
+clear_all-answer-requires c = rw c.links_in-n.ensures (links-few _).0
 
 pub returns-then-is_lent : goal.returns-then-is_lent
 returns-then-is_lent c =
@@ -15,7 +15,7 @@ returns-then-is_lent c =
     c.is_lent.ensures
     c.if-is_lent.true
     c.links_in-n.ensures
-    c.clear_many-answer.ensures
+    c.clear_all-answer.ensures
     c.lay_begun.ensures
     c.tell.ensures
 

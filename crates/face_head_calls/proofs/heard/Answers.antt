@@ -1,19 +1,19 @@
 -- `face_head_calls::heard` meets its promise.
 -- Assumes nothing.
-use Rattle.face_head_calls.proofs.Words.{heard-refused}
-use borrow.Author.Tests.{eq-eqb, ne_eqb}
+use Rattle.std.proofs.Common.{sym, ◌∙◌}
 use Rattle.face_head_calls.specs.Calls.{heard_of}
+use Rattle.face_head_calls.proofs.Words.{same-done, heard-refused}
 use Rattle.face_head_calls.proofs.heard.Goals as goal
 
-pub returns-then-number-eq0 : goal.returns-then-number-eq0
+pub returns-then-eq : goal.returns-then-eq
 unfolding heard_of
-returns-then-number-eq0 c = rw (c.served.ensures, ← c.read-reading.ensures, ← c.number.ensures, eq-eqb _ _ c.if-number-eq0.true)
+returns-then-eq c =
+    rw (c.served.ensures, ← c.read-reading.ensures, sym (c.eq.ensures ∙ same-done c.read-reading.result.reply) ∙ c.if-eq.true)
 
 pub returns : goal.returns
 returns c =
     let a = c.args in
-    heard-refused a.link a.octets.now a.head.now a.links.now a.out.now a.reply.now _ _ _ _
+    heard-refused a.link a.octets.now a.head.now a.links.now a.out.now a.reply.now c.read-reading.result _ _
     c.read-reading.ensures
-    c.number.ensures
-    (ne_eqb _ _ c.if-number-eq0.false)
+    (sym (c.eq.ensures ∙ same-done c.read-reading.result.reply) ∙ c.if-eq.false)
     c.refused.ensures

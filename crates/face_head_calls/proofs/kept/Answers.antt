@@ -1,13 +1,14 @@
 -- `face_head_calls::kept` meets its promise.
 -- Assumes nothing.
-use borrow.Author.Tests.{eq-eqb, ne_eqb}
+use Rattle.std.proofs.Common.{sym, ◌∙◌}
 use Rattle.face_head_calls.specs.Lend.{kept_of}
+use Rattle.face_head_calls.proofs.Words.{same-done}
 use Rattle.face_head_calls.proofs.kept.Goals as goal
 
-pub returns-then-number-eq0 : goal.returns-then-number-eq0
+pub returns-then-eq : goal.returns-then-eq
 unfolding kept_of
-returns-then-number-eq0 c = rw (← c.number.ensures, eq-eqb _ _ c.if-number-eq0.true)
+returns-then-eq c = rw (sym (c.eq.ensures ∙ same-done c.args.answer.reply) ∙ c.if-eq.true)
 
-pub returns : goal.returns
+pub returns-else-eq : goal.returns-else-eq
 unfolding kept_of
-returns c = rw (← c.number.ensures, ne_eqb _ _ c.if-number-eq0.false)
+returns-else-eq c = rw (sym (c.eq.ensures ∙ same-done c.args.answer.reply) ∙ c.if-eq.false)

@@ -1,13 +1,16 @@
 -- `face_head_calls::lay_begun` meets its promise.
 -- Assumes nothing.
-use borrow.Author.Tests.{eq-eqb, ne_eqb}
+use Rattle.std.proofs.Common.{true, false, sym, ◌∙◌}
 use Rattle.face_head_calls.specs.Calls.{begun_head}
+use Rattle.face_head_calls.proofs.Words.{same-unsound, turned}
 use Rattle.face_head_calls.proofs.lay_begun.Goals as goal
 
-pub returns-then-number-eq-UNSOUND : goal.returns-then-number-eq-UNSOUND
+pub returns-then-ne : goal.returns-then-ne
 unfolding begun_head
-returns-then-number-eq-UNSOUND c = rw (← c.number.ensures, eq-eqb _ _ c.if-number-eq-UNSOUND.true)
+returns-then-ne c =
+    rw (sym (same-unsound c.args.answer.reply) ∙ turned _ true (sym c.ne.ensures ∙ c.if-ne.true)) c.lay_head.ensures
 
-pub returns : goal.returns
+pub returns-else-ne : goal.returns-else-ne
 unfolding begun_head
-returns c = rw (c.lay_head.ensures, ← c.number.ensures, ne_eqb _ _ c.if-number-eq-UNSOUND.false)
+returns-else-ne c =
+    rw (sym (same-unsound c.args.answer.reply) ∙ turned _ false (sym c.ne.ensures ∙ c.if-ne.false))

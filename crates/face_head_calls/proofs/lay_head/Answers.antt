@@ -5,4 +5,4 @@ use Rattle.face_head_calls.proofs.lay_head.Goals as goal
 
 pub returns : goal.returns
 unfolding laid_head
-returns c = rw (c.lay.ensures, c.pack_head-w.ensures)
+returns c = rw (c.lay.ensures, c.pack_head.ensures)

@@ -5,4 +5,4 @@ use Rattle.face_head_pass.proofs.head_fits.Goals as goal
 
 pub returns : goal.returns
 unfolding head_fits
-returns c = rw (c.window_fits.ensures, c.individual.ensures)
+returns c = rw (c.window_fits.ensures, c.from.ensures, c.individual.ensures)

@@ -1,33 +1,20 @@
 -- `face_head_pass::nearest` meets its promise.
 -- Assumes nothing.
-use Rattle.face_head_pass.proofs.Turns.{nearest-stop}
+use Rattle.std.proofs.Common.{refl, sym, ap, ◌∙◌, add-one}
 use Rattle.face_head_pass.specs.Judge.{fits, nearest_to}
-use native.Mathlib.Numerals.{add-one}
-use native.Mathlib.Omega.{arith}
-use mathlib.Core.Path.{◌≡◌, refl, sym, ◌∙◌, ap}
+use Rattle.face_head_pass.proofs.Turns.{nearest-stop}
 use Rattle.face_head_pass.proofs.nearest.Goals as goal
 
-pub loop-i-init : goal.loop-i-init
+pub loop-words-init : goal.loop-words-init
 unfolding nearest_to
-loop-i-init c = (omega arith, refl)
-
-pub words_at-w-requires : goal.words_at-w-requires
-words_at-w-requires c =
-    omega (arith, c.requires, c.loop-i-test.true)
+loop-words-init c = refl
 
 pub returns-then-not-fits : goal.returns-then-not-fits
 returns-then-not-fits c =
-    let e = sym (c.fits.ensures ∙ ap fits c.words_at-w.ensures) ∙ c.if-not-fits.true in
-    sym (nearest-stop c.args.links.now _ c.loop-i.i c.loop-i-test.true e)
+    sym (nearest-stop c.args.links.now _ c.loop-words.words-index c.loop-words-test.true (sym (c.fits.ensures ∙ ap fits c.of-w.ensures) ∙ c.if-not-fits.true))
 
-pub loop-i-preserved : goal.loop-i-preserved
+pub loop-words-preserved : goal.loop-words-preserved
 unfolding nearest_to
-loop-i-preserved c =
-    let at = c.loop-i in
-    let e = sym (c.fits.ensures ∙ ap fits c.words_at-w.ensures) ∙ c.if-not-fits.false in
-    (omega arith, rw (add-one at.i, e) (c.near-m.ensures ∙ rw (c.words_at-w.ensures, at.invariant.1)))
-
-pub returns : goal.returns
-returns c =
-    let e : c.loop-i.i ≡ c.args.n = omega (arith, c.loop-i.invariant.0, c.loop-i-test.false) in
-    c.loop-i.invariant.1 ∙ rw e
+loop-words-preserved c =
+    let e = sym (c.fits.ensures ∙ ap fits c.of-w.ensures) ∙ c.if-not-fits.false in
+    rw (add-one c.loop-words.words-index, e) (c.near-m.ensures ∙ rw (c.of-w.ensures, c.loop-words.invariant))

@@ -13,4 +13,4 @@ bounds-links-at-6 c = simp length-set (omega arith)
 
 pub returns : goal.returns
 returns c =
-    pass-there c.args.links.now c.args.at c.args.k _ _ _ c.requires c.less.ensures c.less-2.ensures c.less-3.ensures
+    pass-there c.args.links.now c.args.at c.args.k _ _ _ c.requires c.saturating_sub.ensures c.saturating_sub-2.ensures c.saturating_sub-3.ensures

@@ -10,7 +10,7 @@ returns-then-head-lt-HEAD c = rw (lt-ltb _ _ c.if-head-lt-HEAD.true)
 
 pub returns-then-head-eq0 : goal.returns-then-head-eq0
 unfolding passed_head
-returns-then-head-eq0 c = rw (c.later-later.ensures, c.count_of-count.ensures, le-ltb _ _ c.if-head-lt-HEAD.false, eq-eqb _ _ c.if-head-eq0.true)
+returns-then-head-eq0 c = rw (c.from.ensures, c.later.ensures, c.count_of-count.ensures, le-ltb _ _ c.if-head-lt-HEAD.false, eq-eqb _ _ c.if-head-eq0.true)
 
 pub returns : goal.returns
 unfolding passed_head

@@ -1,17 +1,20 @@
 -- `face_head_pass::window_fits` meets its promise.
 -- Assumes nothing.
-use borrow.Author.Tests.{eq-eqb, ne_eqb}
+use Rattle.std.proofs.Common.{arith}
+use borrow.Author.Tests.{ne_eqb}
 use Rattle.face_head_pass.specs.Judge.{window_fits}
 use Rattle.face_head_pass.proofs.window_fits.Goals as goal
 
-pub returns-then-phase-eq0 : goal.returns-then-phase-eq0
+pub returns-in-0 : goal.returns-in-0
 unfolding window_fits
-returns-then-phase-eq0 c = rw (eq-eqb _ _ c.if-phase-eq0.true)
+returns-in-0 c = rw c.in-0.is
 
-pub returns-then-phase-eq1 : goal.returns-then-phase-eq1
+pub returns-in-1 : goal.returns-in-1
 unfolding window_fits
-returns-then-phase-eq1 c = rw (c.runs-then-phase-eq1.ensures, c.runs.ensures, ne_eqb _ _ c.if-phase-eq0.false, eq-eqb _ _ c.if-phase-eq1.true)
+returns-in-1 c = rw (c.runs-in-1.ensures, c.runs.ensures, c.in-1.is)
 
-pub returns : goal.returns
+pub returns-in_default : goal.returns-in_default
 unfolding window_fits
-returns c = rw (c.runs-2.ensures, ne_eqb _ _ c.if-phase-eq0.false, ne_eqb _ _ c.if-phase-eq1.false)
+returns-in_default c =
+    let n = c.args.phase in
+    rw (c.runs-in_default.ensures, ne_eqb n 0 (λ e. omega (arith, e)), ne_eqb n 1 (λ e. omega (arith, e)))
