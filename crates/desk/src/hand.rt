@@ -1,48 +1,41 @@
 // Words of a head or a link that are handed in again: what no call of its own leads to soon, or at all.
 use crate::state::Desk;
+use script::words::at;
 
-// The words of three links.
-pub const BEHIND: usize = 15;
-
-pub fn with_head(desk: Desk, of: [u64; 15]) -> Desk {
-    let mut next = desk;
-    next.head[0] = of[0];
-    next.head[1] = of[1];
-    next
+#[derive(Clone, Copy)]
+pub enum Part {
+    // Address and count.
+    Head([u64; 2]),
+    // Phase, ticks left and length.
+    Window([u64; 3]),
+    // Where a link's words begin, and these.
+    Link(usize, [u64; 5]),
 }
 
-pub fn with_window(desk: Desk, phase: u64, left: u64, length: u64) -> Desk {
-    let mut next = desk;
-    next.head[2] = phase;
-    next.head[3] = left;
-    next.head[4] = length;
-    next
-}
-
-// Where the words of a link from 1 to 3 begin, if its state is one from 0 to 2; else behind the table.
-pub fn place(number: u64, state: u64) -> usize {
-    if state > 2 {
-        return BEHIND;
-    }
-    match number {
-        1 => 0,
-        2 => 5,
-        3 => 10,
-        _ => BEHIND,
+impl Part {
+    // A link from 1 to 3, in a state from 0 to 2.
+    pub fn link(of: &[u64]) -> Option<Part> {
+        let place = match (at(of, 0), at(of, 1)) {
+            (1, 0..=2) => 0,
+            (2, 0..=2) => 5,
+            (3, 0..=2) => 10,
+            _ => return None,
+        };
+        let words = [at(of, 2), at(of, 1), at(of, 3), at(of, 4), at(of, 5)];
+        Some(Part::Link(place, words))
     }
 }
 
-fn put(words: &[u64], at: usize, links: &mut [u64]) {
-    if at <= links.len() {
-        face_words::lay(words, &mut links[at..]);
-    }
-}
-
-pub fn with_link(desk: Desk, at: usize, of: [u64; 15]) -> Desk {
+pub fn with(desk: Desk, part: Part) -> Desk {
     let mut next = desk;
-    let mut links = desk.links;
-    let words = [of[2], of[1], of[3], of[4], of[5]];
-    put(&words, at, &mut links);
-    next.links = links;
+    match part {
+        Part::Head(words) => face_words::lay(&words, &mut next.head),
+        Part::Window(words) => face_words::lay(&words, &mut next.head[2..]),
+        Part::Link(place, words) => {
+            if let Some(links) = next.links.get_mut(place..) {
+                face_words::lay(&words, links);
+            }
+        }
+    }
     next
 }

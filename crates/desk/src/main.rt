@@ -1,47 +1,42 @@
 // Runs a head through the calls that standard input asks for, a line each, and shows what it answers.
 #![tactic(auto)]
 
+mod asked;
 mod asking;
-mod calls;
 mod hand;
 mod run;
 mod state;
 mod tell;
 
-use script::{input, out, words};
+use asked::Asked;
+use script::input::Input;
+use script::words;
 use state::Desk;
+use std::alloc::Global;
 use std::io;
 use std::io::Write;
 
-fn run_line(writer: &mut impl Write, desk: Desk, line: &[u8]) -> io::Result<Desk> {
-    out::text(writer, line)?;
+fn run_line(
+    alloc: Global,
+    writer: &mut impl Write,
+    desk: &mut Desk,
+    line: &[u8],
+) -> io::Result<()> {
+    writer.write_all(line)?;
     if words::passed_on(line) {
-        out::text(writer, b"\n")?;
-        return Ok(desk);
+        return writeln!(writer);
     }
-    calls::call(writer, desk, line)
-}
-
-fn run_lines(writer: &mut impl Write, text: &[u8]) -> io::Result<()> {
-    let mut desk = Desk::first();
-    let mut at = 0;
-    while at < text.len() {
-        let end = words::find(text, at, b'\n');
-        desk = run_line(writer, desk, &text[at..end])?;
-        at = end + 1;
+    match Asked::by(alloc, line)? {
+        Some(asked) => run::answer(writer, desk, asked),
+        None => writeln!(writer, " -> ?"),
     }
-    Ok(())
 }
 
 fn main(rt: HostRuntime) -> io::Result<()> {
-    let mut reader = rt.stdin();
-    let mut writer = rt.stdout();
-    let mut space = [0u8; 65536];
-    let n = input::read_full(&mut reader, &mut space)?;
-    run_lines(&mut writer, &space[..n])?;
-    if n == space.len() {
-        let mut told = rt.stderr();
-        return told.write_all(b"desk: nothing is read past 65,536 octets\n");
+    let input = Input::read(&rt)?;
+    let mut desk = Desk::first();
+    for line in input.lines() {
+        run_line(rt.alloc(), &mut rt.stdout(), &mut desk, line)?;
     }
-    Ok(())
+    input.tell_cut(&rt, "desk")
 }

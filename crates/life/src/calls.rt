@@ -1,13 +1,18 @@
-// What a line without a message asks for.
-use frame::Address;
-use script::words::Numbers;
+// What a line asks for.
+use frame::{Address, Message};
+use frame_queues::Sets;
+use script::words::at;
 use script::{messages, words};
+use std::alloc::{AllocError, Global};
 
 #[derive(Clone, Copy)]
 pub enum Call {
     Fresh(Address),
     Register,
     Deregister,
+    Report(Sets),
+    // With a random number.
+    Hear(Message, u32),
     Tick(u64),
     Advance(u64),
     Hand(Part),
@@ -30,51 +35,40 @@ pub enum Look {
     Send(u64, u64),
     Octets,
     Timers,
-    Nothing,
 }
 
-fn look_of(name: &[u8], a: u64, b: u64) -> Call {
-    match words::place(name, b"send octets timers") {
-        0 => Call::Look(Look::Send(a, b)),
-        1 => Call::Look(Look::Octets),
-        2 => Call::Look(Look::Timers),
-        _ => Call::Look(Look::Nothing),
+impl Call {
+    // A line is a name, and numbers behind it.
+    pub fn by(alloc: Global, line: &[u8]) -> Result<Option<Call>, AllocError> {
+        let mut words = words::of(line);
+        let name = words.next().unwrap_or_default();
+        let numbers = words::numbers(alloc, words)?;
+        Ok(numbers.and_then(|of| Call::named(name, of.as_slice())))
     }
-}
 
-fn hand_of(name: &[u8], a: u64, b: u64) -> Call {
-    let left = messages::modulo_32(a);
-    match words::place(
-        name,
-        b"hand_wait hand_watchdog hand_report hand_laser hand_held",
-    ) {
-        0 => Call::Hand(Part::Wait(left)),
-        1 => Call::Hand(Part::Watchdog(left)),
-        2 => Call::Hand(Part::Report(left)),
-        3 => Call::Hand(Part::Laser(left)),
-        4 => Call::Hand(Part::Held(a)),
-        _ => look_of(name, a, b),
+    // A message's name has capitals, and the others are this program's own.
+    fn named(name: &[u8], of: &[u64]) -> Option<Call> {
+        let number = at(of, 0);
+        let left = messages::modulo_32(number);
+        match name {
+            b"fresh" => Some(Call::Fresh(Address(number))),
+            b"register" => Some(Call::Register),
+            b"deregister" => Some(Call::Deregister),
+            b"report" => Some(Call::Report(messages::sets(of))),
+            b"tick" => Some(Call::Tick(number)),
+            b"advance" => Some(Call::Advance(number)),
+            b"hand_wait" => Some(Call::Hand(Part::Wait(left))),
+            b"hand_watchdog" => Some(Call::Hand(Part::Watchdog(left))),
+            b"hand_report" => Some(Call::Hand(Part::Report(left))),
+            b"hand_laser" => Some(Call::Hand(Part::Laser(left))),
+            b"hand_held" => Some(Call::Hand(Part::Held(number))),
+            b"send" => Some(Call::Look(Look::Send(number, at(of, 1)))),
+            b"octets" => Some(Call::Look(Look::Octets)),
+            b"timers" => Some(Call::Look(Look::Timers)),
+            _ => {
+                let message = messages::message(name, of)?;
+                Some(Call::Hear(message, messages::random(of)))
+            }
+        }
     }
-}
-
-fn ask_of(name: &[u8], a: u64, b: u64) -> Call {
-    match words::place(name, b"fresh register deregister tick advance") {
-        0 => Call::Fresh(Address(a)),
-        1 => Call::Register,
-        2 => Call::Deregister,
-        3 => Call::Tick(a),
-        4 => Call::Advance(a),
-        _ => hand_of(name, a, b),
-    }
-}
-
-// The client's report, which has more numbers than another call.
-pub fn is_report(name: &[u8]) -> bool {
-    words::place(name, b"report") == 0
-}
-
-// What is no message is a call of this program's own.
-pub fn named(name: &[u8], n: Numbers) -> Call {
-    let of = n.of;
-    ask_of(name, of[0], of[1])
 }

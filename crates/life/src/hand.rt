@@ -2,59 +2,22 @@
 use crate::calls::Part;
 use box_calls::FloorBox;
 use box_light::{Light, Phase};
-use box_processes::Processes;
 use clock::Timer;
 
-fn with_processes(b: FloorBox, processes: Processes) -> FloorBox {
-    let address = b.address;
-    FloorBox { address, processes }
-}
-
-fn with_wait(b: FloorBox, left: u32) -> FloorBox {
-    let p = b.processes;
-    let mut r = p.registration;
-    let timer = Timer { left };
-    r.wait = timer;
-    with_processes(b, p.with_registration(r))
-}
-
-fn with_watchdog(b: FloorBox, left: u32) -> FloorBox {
-    let p = b.processes;
-    let mut r = p.registration;
-    let timer = Timer { left };
-    r.watchdog = timer;
-    with_processes(b, p.with_registration(r))
-}
-
-fn with_report(b: FloorBox, left: u32) -> FloorBox {
-    let p = b.processes;
-    let mut r = p.registration;
-    let timer = Timer { left };
-    r.report = timer;
-    with_processes(b, p.with_registration(r))
-}
-
-// The laser is on for a discovery window.
-fn with_laser(b: FloorBox, left: u32) -> FloorBox {
-    let p = b.processes;
-    let timer = Timer { left };
-    let phase = Phase::Warming;
-    with_processes(b, p.with_light(Light { phase, timer }))
-}
-
-fn with_held(b: FloorBox, number: usize) -> FloorBox {
-    let p = b.processes;
-    let mut list = p.list;
-    list.number = number;
-    with_processes(b, p.with_list(list))
-}
-
 pub fn with(b: FloorBox, part: Part) -> FloorBox {
+    let mut next = b;
     match part {
-        Part::Wait(left) => with_wait(b, left),
-        Part::Watchdog(left) => with_watchdog(b, left),
-        Part::Report(left) => with_report(b, left),
-        Part::Laser(left) => with_laser(b, left),
-        Part::Held(number) => with_held(b, number as usize),
+        Part::Wait(left) => next.processes.registration.wait = Timer { left },
+        Part::Watchdog(left) => next.processes.registration.watchdog = Timer { left },
+        Part::Report(left) => next.processes.registration.report = Timer { left },
+        // It is on for a discovery window.
+        Part::Laser(left) => {
+            next.processes.light = Light {
+                phase: Phase::Warming,
+                timer: Timer { left },
+            }
+        }
+        Part::Held(number) => next.processes.list.number = number as usize,
     }
+    next
 }

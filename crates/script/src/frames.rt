@@ -1,129 +1,83 @@
 // What a frame says, in words.
-use crate::{out, sets};
-use clock::Quanta;
-use frame::{Body, Grant, Grants, Message, RegisterAckFlag, RegisterFlag, RegisterReqFlag};
-use frame_queues::Sets;
-use std::io;
-use std::io::Write;
+ghost use Rattle.std.specs.Prelude.{◌≡◌};
+ghost use Rattle.script.specs.Words.{each_of};
+ghost use Rattle.frame.specs.Layout.{listed};
 
-pub fn tell_grant(writer: &mut impl Write, grant: Grant) -> io::Result<()> {
-    let start = grant.start;
-    let length = grant.length;
-    out::number(writer, start.0 as u64)?;
-    out::number(writer, length.0 as u64)?;
-    if grant.force {
-        out::text(writer, b" force")?;
-    }
-    Ok(())
-}
+use crate::out::Told;
+use frame::{Body, Grant, Grants, Message};
+use std::fmt;
 
-fn tell_port(writer: &mut impl Write, port: u16) -> io::Result<()> {
-    out::field(writer, b" port", port as u64)
-}
-
-fn tell_sync(writer: &mut impl Write, sync: Quanta) -> io::Result<()> {
-    out::field(writer, b" sync", sync.0 as u64)
-}
-
-fn tell_pending(writer: &mut impl Write, pending: u8) -> io::Result<()> {
-    out::field(writer, b" pending", pending as u64)
-}
-
-fn tell_another(writer: &mut impl Write, grant: Grant) -> io::Result<()> {
-    out::text(writer, b",")?;
-    tell_grant(writer, grant)
-}
-
-fn tell_two(writer: &mut impl Write, a: Grant, b: Grant) -> io::Result<()> {
-    tell_grant(writer, a)?;
-    tell_another(writer, b)
-}
-
-fn tell_three(writer: &mut impl Write, a: Grant, b: Grant, c: Grant) -> io::Result<()> {
-    tell_two(writer, a, b)?;
-    tell_another(writer, c)
-}
-
-fn tell_four(writer: &mut impl Write, a: Grant, b: Grant, c: Grant, d: Grant) -> io::Result<()> {
-    tell_three(writer, a, b, c)?;
-    tell_another(writer, d)
-}
-
-fn tell_gate(writer: &mut impl Write, grants: Grants) -> io::Result<()> {
-    out::text(writer, b" gate")?;
+// In their order, and none behind the last.
+pub fn each(grants: Grants) -> [Option<Grant>; 4]
+    ensures { result ≡ each_of (listed grants) }
+{
     match grants {
-        Grants::None => Ok(()),
-        Grants::One(a) => tell_grant(writer, a),
-        Grants::Two(a, b) => tell_two(writer, a, b),
-        Grants::Three(a, b, c) => tell_three(writer, a, b, c),
-        Grants::Four(a, b, c, d) => tell_four(writer, a, b, c, d),
+        Grants::None => [None; 4],
+        Grants::One(a) => [Some(a), None, None, None],
+        Grants::Two(a, b) => [Some(a), Some(b), None, None],
+        Grants::Three(a, b, c) => [Some(a), Some(b), Some(c), None],
+        Grants::Four(a, b, c, d) => [Some(a), Some(b), Some(c), Some(d)],
     }
 }
 
-fn tell_discovery(writer: &mut impl Write, grant: Grant, sync: Quanta) -> io::Result<()> {
-    out::text(writer, b" discovery")?;
-    tell_grant(writer, grant)?;
-    tell_sync(writer, sync)
+impl fmt::Display for Told<Grant> {
+    fn fmt<W: fmt::Write>(&self, f: &mut fmt::Formatter<W>) -> fmt::Result {
+        let Grant {
+            start,
+            length,
+            force,
+        } = self.0;
+        let forced = if force { " force" } else { "" };
+        write!(f, " {} {}{forced}", start.0, length.0)
+    }
 }
 
-fn tell_report(writer: &mut impl Write, sets: Sets) -> io::Result<()> {
-    out::text(writer, b" report")?;
-    sets::tell(writer, sets)
+impl fmt::Display for Told<Grants> {
+    fn fmt<W: fmt::Write>(&self, f: &mut fmt::Formatter<W>) -> fmt::Result {
+        for (place, grant) in each(self.0).iter().flatten().enumerate() {
+            let comma = if place > 0 { "," } else { "" };
+            write!(f, "{comma}{}", Told(*grant))?;
+        }
+        Ok(())
+    }
 }
 
-fn tell_register_req(
-    writer: &mut impl Write,
-    flag: RegisterReqFlag,
-    pending: u8,
-) -> io::Result<()> {
-    out::field(writer, b" register_req", flag.number() as u64)?;
-    tell_pending(writer, pending)
-}
-
-fn tell_register(
-    writer: &mut impl Write,
-    flag: RegisterFlag,
-    port: u16,
-    sync: Quanta,
-    pending: u8,
-) -> io::Result<()> {
-    out::field(writer, b" register", flag.number() as u64)?;
-    tell_port(writer, port)?;
-    tell_sync(writer, sync)?;
-    tell_pending(writer, pending)
-}
-
-fn tell_register_ack(
-    writer: &mut impl Write,
-    flag: RegisterAckFlag,
-    port: u16,
-    sync: Quanta,
-) -> io::Result<()> {
-    out::field(writer, b" register_ack", flag.number() as u64)?;
-    tell_port(writer, port)?;
-    tell_sync(writer, sync)
-}
-
-fn tell_body(writer: &mut impl Write, body: Body) -> io::Result<()> {
-    match body {
-        Body::Gate(grants) => tell_gate(writer, grants),
-        Body::Discovery { grant, sync } => tell_discovery(writer, grant, sync),
-        Body::Report(sets) => tell_report(writer, sets),
-        Body::RegisterReq { flag, pending } => tell_register_req(writer, flag, pending),
-        Body::Register {
-            port,
-            flag,
-            sync,
-            pending,
-        } => tell_register(writer, flag, port, sync, pending),
-        Body::RegisterAck { flag, port, sync } => tell_register_ack(writer, flag, port, sync),
+impl fmt::Display for Told<Body> {
+    fn fmt<W: fmt::Write>(&self, f: &mut fmt::Formatter<W>) -> fmt::Result {
+        match self.0 {
+            Body::Gate(grants) => write!(f, " gate{}", Told(grants)),
+            Body::Discovery { grant, sync } => {
+                write!(f, " discovery{} sync {}", Told(grant), sync.0)
+            }
+            Body::Report(sets) => write!(f, " report{}", Told(sets)),
+            Body::RegisterReq { flag, pending } => {
+                write!(f, " register_req {} pending {pending}", flag.number())
+            }
+            Body::Register {
+                port,
+                flag,
+                sync,
+                pending,
+            } => {
+                let flag = flag.number();
+                let sync = sync.0;
+                write!(
+                    f,
+                    " register {flag} port {port} sync {sync} pending {pending}"
+                )
+            }
+            Body::RegisterAck { flag, port, sync } => {
+                let flag = flag.number();
+                write!(f, " register_ack {flag} port {port} sync {}", sync.0)
+            }
+        }
     }
 }
 
 // Its kind, its fields and its timestamp.
-pub fn tell(writer: &mut impl Write, message: Message) -> io::Result<()> {
-    let body = message.body;
-    let timestamp = message.timestamp;
-    tell_body(writer, body)?;
-    out::field(writer, b" stamp", timestamp.0 as u64)
+impl fmt::Display for Told<Message> {
+    fn fmt<W: fmt::Write>(&self, f: &mut fmt::Formatter<W>) -> fmt::Result {
+        let message = self.0;
+        write!(f, "{} stamp {}", Told(message.body), message.timestamp.0)
+    }
 }

@@ -1,4 +1,4 @@
-// What programs that run a script of calls share: the words of a line, messages by name, what a frame says, standard input and output.
+// What programs that run a script of calls share: standard input, the words of a line, messages by name, and what a frame says.
 #![tactic(auto)]
 
 pub mod frames;

@@ -1,63 +1,38 @@
 // The queue sets of a REPORT, in words: how many there are, and for each its bitmap and the lengths of its queues.
-ghost use Rattle.std.specs.Prelude.{◌≡◌, ◌≤◌, ◌<◌, length};
-
-use crate::out;
+use crate::out::Told;
 use frame_queues::Sets;
-use std::io;
-use std::io::Write;
-
-// Octets of a body.
-const BODY: usize = 40;
-
-// How many octets the sets take, with their number.
-fn octets_in(o: &[u8]) -> usize
-    ensures { result ≤ 40 }
-{
-    let n = frame_queues::used(o);
-    if n < BODY { n } else { BODY }
-}
-
-fn tell_length(writer: &mut impl Write, o: &[u8], at: usize) -> io::Result<()>
-    requires { at < 40 }
-{
-    if at + 2 <= o.len() {
-        return out::number(writer, octets::number(&o[at..at + 2]));
-    }
-    Ok(())
-}
-
-// An octet of the sets: with no lengths left it is a bitmap, else the first or the second of a length. How many of these come behind it.
-fn tell_octet(writer: &mut impl Write, o: &[u8], at: usize, left: u32) -> io::Result<u32>
-    requires { (at < 40) × (length o.now ≡ 40) }
-{
-    if left == 0 {
-        out::number(writer, o[at] as u64)?;
-        return Ok(2 * u8::count_ones(o[at]));
-    }
-    if left % 2 == 0 {
-        tell_length(writer, o, at)?;
-    }
-    Ok(left - 1)
-}
-
-fn tell_all(writer: &mut impl Write, o: &[u8], end: usize) -> io::Result<()>
-    requires { (end ≤ 40) × (length o.now ≡ 40) }
-{
-    let mut left: u32 = 0;
-    let mut at = 1;
-    while at < end {
-        left = tell_octet(writer, o, at, left)?;
-        at += 1;
-    }
-    Ok(())
-}
+use std::fmt;
 
 // Nothing where there are none.
-pub fn tell(writer: &mut impl Write, sets: Sets) -> io::Result<()> {
-    let o = sets.octets();
-    if o[0] > 0 {
-        out::number(writer, o[0] as u64)?;
-        return tell_all(writer, &o, octets_in(&o));
+impl fmt::Display for Told<Sets> {
+    fn fmt<W: fmt::Write>(&self, f: &mut fmt::Formatter<W>) -> fmt::Result {
+        let octets = self.0.octets();
+        let end = frame_queues::used(&octets).min(octets.len());
+        match &octets[..end] {
+            [] | [0, ..] => Ok(()),
+            [number, sets @ ..] => {
+                write!(f, " {number}")?;
+                tell_each(f, sets)
+            }
+        }
+    }
+}
+
+// A bitmap has a length of two octets for each of its bits. Of sets that run past the body a length that is cut is left out.
+fn tell_each<W: fmt::Write>(f: &mut fmt::Formatter<W>, sets: &[u8]) -> fmt::Result {
+    let mut rest = sets;
+    while let Some((bitmap, behind)) = rest.split_first() {
+        write!(f, " {bitmap}")?;
+        let taken = behind.len().min(2 * bitmap.count_ones() as usize);
+        tell_lengths(f, &behind[..taken])?;
+        rest = &behind[taken..];
+    }
+    Ok(())
+}
+
+fn tell_lengths<W: fmt::Write>(f: &mut fmt::Formatter<W>, lengths: &[u8]) -> fmt::Result {
+    for length in lengths.chunks_exact(2) {
+        write!(f, " {}", octets::number(length))?;
     }
     Ok(())
 }

@@ -1,6 +1,9 @@
 // The words of a line, and the numbers that they spell.
-ghost use Rattle.std.specs.Prelude.{◌≡◌, ◌≢◌, ◌≤◌, ◌<◌, ℕ, length, slice_index};
-ghost use Rattle.script.specs.Words.{passed_on};
+ghost use Rattle.std.specs.Prelude.{◌≡◌, ◌≢◌, ◌≤◌, ◌<◌, ℕ, length, slice_index, get_or, IfSome, IfOk, vec_len};
+ghost use Rattle.std.specs.Iterator.{at_most};
+ghost use Rattle.script.specs.Words.{passed_on, digit_of, spelled, number_of};
+
+use std::alloc::{AllocError, Global};
 
 // The most that a call takes: a GATE's addresses, timestamp and four grants.
 pub const MOST: usize = 15;
@@ -8,26 +11,14 @@ pub const MOST: usize = 15;
 // With a digit more a larger number might not fit.
 const LARGEST: u64 = 0xFFFFFFFFFFFFFFF;
 
-#[derive(Clone, Copy)]
-pub enum Spelt {
-    Is(u64),
-    Not,
-}
-
-#[derive(Clone, Copy)]
-pub struct Numbers {
-    pub number: usize,
-    pub of: [u64; MOST],
-}
-
 // Comments and empty lines are passed on, so that an input can explain itself.
 pub fn passed_on(line: &[u8]) -> bool
     ensures { result ≡ passed_on line.now }
 {
-    if line.len() == 0 {
-        return true;
+    match line {
+        [] => true,
+        [first, ..] => *first == b'#',
     }
-    line[0] == b'#'
 }
 
 // Where the octet stands first, from a place on; the length where it does not; the place itself where the line ends before it.
@@ -38,105 +29,146 @@ pub fn find(line: &[u8], from: usize, octet: u8) -> usize
     ensures before { (k : ℕ) → from ≤ k → k < result → slice_index line.now k ≢ octet }
     ensures found { result < length line.now → slice_index line.now result ≡ octet }
 {
-    let mut at = from;
-    while at < line.len() {
+    for at in from..line.len() {
         if line[at] == octet {
             return at;
         }
-        at += 1;
     }
-    at
+    from.max(line.len())
 }
 
-// Which word of a list it is, from 0; the number of its words where it is none.
-pub fn place(word: &[u8], list: &[u8]) -> usize {
+// What an octet ends, piece by piece; the last may do without it.
+#[derive(Clone, Copy)]
+pub struct Pieces<'a> {
+    pub rest: &'a [u8],
+    pub end: u8,
+}
+
+impl<'a> Pieces<'a> {
+    pub fn new(text: &'a [u8], end: u8) -> Pieces<'a>
+        ensures rest { result.rest.now ≡ text.now }
+        ensures end { result.end ≡ end }
+    {
+        Pieces { rest: text, end }
+    }
+}
+
+impl<'a> Iterator for Pieces<'a> {
+    type Item = &'a [u8];
+
+    ghost remaining = { λ s. at_most (length s.rest.now) };
+
+    fn next(&mut self) -> Option<&'a [u8]> {
+        let rest = self.rest;
+        if rest.is_empty() {
+            return None;
+        }
+        let end = find(rest, 0, self.end);
+        self.rest = rest.get(end + 1..).unwrap_or_default();
+        Some(&rest[..end])
+    }
+}
+
+pub fn of(line: &[u8]) -> Pieces<'_>
+    ensures rest { result.rest.now ≡ line.now }
+    ensures end { result.end ≡ 32 }
+{
+    Pieces::new(line, b' ')
+}
+
+// Hexadecimal digits are in lower case.
+fn digit(c: u8, radix: u32) -> Option<u32>
+    requires { (2 ≤ radix) × (radix ≤ 16) }
+    ensures value { result ≡ digit_of radix c }
+    ensures below { IfSome result (λ d. d < radix) }
+{
+    char::from(c)
+        .to_digit(radix)
+        .filter(|_| !c.is_ascii_uppercase())
+}
+
+fn digits(spelling: &[u8], radix: u32) -> Option<u64>
+    requires { (2 ≤ radix) × (radix ≤ 16) }
+    ensures { result ≡ spelled radix 0 spelling.now }
+{
     let mut n = 0;
-    let mut at = 0;
-    while at < list.len() {
-        let end = find(list, at, b' ');
-        if word == &list[at..end] {
-            return n;
+    for c in spelling {
+        let more = digit(*c, radix)?;
+        if n > LARGEST {
+            return None;
         }
-        n += 1;
-        at = end + 1;
+        n = n * u64::from(radix) + u64::from(more);
     }
-    n
-}
-
-// What a digit stands for; 16 for any other octet.
-fn digit(c: u8) -> u8 {
-    match c {
-        b'0'..=b'9' => c - b'0',
-        b'a'..=b'f' => c - b'a' + 10,
-        _ => 16,
-    }
-}
-
-fn with_digit(n: u64, c: u8, hexadecimal: bool) -> Spelt {
-    let d = digit(c);
-    if n > LARGEST {
-        return Spelt::Not;
-    }
-    if hexadecimal {
-        if d > 15 {
-            return Spelt::Not;
-        }
-        return Spelt::Is(n * 16 + d as u64);
-    }
-    if d > 9 {
-        return Spelt::Not;
-    }
-    Spelt::Is(n * 10 + d as u64)
-}
-
-fn digits(spelling: &[u8], hexadecimal: bool) -> Spelt {
-    let mut n: u64 = 0;
-    let mut i = 0;
-    while i < spelling.len() {
-        let Spelt::Is(more) = with_digit(n, spelling[i], hexadecimal) else {
-            return Spelt::Not;
-        };
-        n = more;
-        i += 1;
-    }
-    Spelt::Is(n)
+    Some(n)
 }
 
 // Decimal digits, or hexadecimal ones after 0x.
-pub fn number(word: &[u8]) -> Spelt {
-    if word.len() == 0 {
-        return Spelt::Not;
+pub fn number(word: &[u8]) -> Option<u64>
+    ensures { result ≡ number_of word.now }
+{
+    match word {
+        [] | b"0x" => None,
+        [b'0', b'x', spelling @ ..] => digits(spelling, 16),
+        _ => digits(word, 10),
     }
-    if word.len() > 2 {
-        if &word[0..2] == b"0x".as_slice() {
-            return digits(&word[2..], true);
-        }
-    }
-    digits(word, false)
 }
 
-// The numbers of a line from a place on; more than any call takes where a word spells none.
-pub fn behind(line: &[u8], from: usize) -> Numbers {
-    let mut of = [0u64; MOST];
-    let mut n = 0;
-    let mut at = from;
-    while at < line.len() {
-        let end = find(line, at, b' ');
-        let Spelt::Is(x) = number(&line[at..end]) else {
-            return Numbers {
-                number: MOST + 1,
-                of,
-            };
-        };
-        if n >= MOST {
-            return Numbers {
-                number: MOST + 1,
-                of,
-            };
+// The numbers that words spell; none where a word spells none, or there are more than any call takes.
+pub fn numbers(alloc: Global, words: Pieces<'_>) -> Result<Option<Vec<u64>>, AllocError>
+    ensures { IfOk result (λ r. IfSome r (λ v. vec_len v ≤ 15)) }
+{
+    let mut of = Vec::new(alloc);
+    for word in words {
+        match number(word) {
+            Some(n) if of.len() < MOST => of.push(n)?,
+            _ => return Ok(None),
         }
-        of[n] = x;
-        n += 1;
-        at = end + 1;
     }
-    Numbers { number: n, of }
+    Ok(Some(of))
+}
+
+// Of a line's numbers one by its place; one that is left out is 0.
+pub fn at(of: &[u64], place: usize) -> u64
+    ensures { result ≡ get_or of.now place 0 }
+{
+    of.get(place).copied().unwrap_or(0)
+}
+
+#[cfg(test)]
+mod tests {
+    use super::*;
+    use std::test::Fail;
+
+    #[test]
+    fn spells(rt: HostRuntime) -> Result<(), Fail> {
+        let words = of(b"1 0x10 3");
+        let some = numbers(rt.alloc(), words)?.ok_or("none")?;
+        assert_eq!(rt; some.as_slice(), [1, 16, 3].as_slice());
+        let most = of(b"1 2 3 4 5 6 7 8 9 10 11 12 13 14 15");
+        let some = numbers(rt.alloc(), most)?.ok_or("none")?;
+        assert_eq!(rt;
+            some.as_slice(),
+            [1, 2, 3, 4, 5, 6, 7, 8, 9, 10, 11, 12, 13, 14, 15].as_slice()
+        );
+        let some = numbers(rt.alloc(), of(b""))?.ok_or("none")?;
+        assert!(rt; some.is_empty());
+        Ok(())
+    }
+
+    #[test]
+    fn spells_none(rt: HostRuntime) -> Result<(), Fail> {
+        let lines = [
+            "1 x 3",
+            "1 0x 3",
+            "0xA",
+            "1  3",
+            "1 2 3 4 5 6 7 8 9 10 11 12 13 14 15 16",
+            "99999999999999999999",
+        ];
+        for line in lines {
+            let none = numbers(rt.alloc(), of(line.as_bytes()))?;
+            assert!(rt; none.is_none(), "{line}");
+        }
+        Ok(())
+    }
 }

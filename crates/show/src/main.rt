@@ -1,58 +1,33 @@
 // Shows what control frames say: a line of answer for each line of standard input.
 #![tactic(auto)]
 
+mod asked;
 mod frames;
 mod hex;
-mod out;
-mod words;
 
-ghost use Rattle.std.specs.Prelude.{◌≤◌, length};
-
-use script::input;
+use asked::Asked;
+use script::input::Input;
+use script::words;
+use std::alloc::Global;
 use std::io;
 use std::io::Write;
 
-// Comments and empty lines are passed on, so that an input can explain itself.
-fn passed_on(line: &[u8]) -> bool {
-    if line.len() == 0 {
-        return true;
+fn show_line(alloc: Global, writer: &mut impl Write, line: &[u8], number: u64) -> io::Result<()> {
+    if words::passed_on(line) {
+        writer.write_all(line)?;
+    } else {
+        match Asked::by(alloc, line)? {
+            Some(asked) => asked.answer(writer)?,
+            None => write!(writer, "? {number}")?,
+        }
     }
-    line[0] == b'#'
-}
-
-fn show_line(writer: &mut impl Write, line: &[u8], number: u64) -> io::Result<()> {
-    if passed_on(line) {
-        out::text(writer, line)?;
-    } else if !frames::answered(writer, line)? {
-        out::text(writer, b"?")?;
-        out::number(writer, number)?;
-    }
-    out::text(writer, b"\n")
-}
-
-fn show_lines(writer: &mut impl Write, text: &[u8]) -> io::Result<()>
-    requires { length text.now ≤ 65536 }
-{
-    let mut at = 0;
-    let mut number: u64 = 1;
-    while at < text.len() {
-        let end = at + words::find(&text[at..], b'\n');
-        show_line(writer, &text[at..end], number)?;
-        at = end + 1;
-        number += 1;
-    }
-    Ok(())
+    writeln!(writer)
 }
 
 fn main(rt: HostRuntime) -> io::Result<()> {
-    let mut reader = rt.stdin();
-    let mut writer = rt.stdout();
-    let mut space = [0u8; 65536];
-    let n = input::read_full(&mut reader, &mut space)?;
-    show_lines(&mut writer, &space[..n])?;
-    if n == space.len() {
-        let mut told = rt.stderr();
-        return told.write_all(b"show: nothing is read past 65,536 octets\n");
+    let input = Input::read(&rt)?;
+    for (line, number) in input.lines().zip(1u64..) {
+        show_line(rt.alloc(), &mut rt.stdout(), line, number)?;
     }
-    Ok(())
+    input.tell_cut(&rt, "show")
 }

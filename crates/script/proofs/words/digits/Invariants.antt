@@ -1,9 +1,6 @@
-use Prim.Native.Nat.{◌≤◌, ◌-◌}
-use lib.ListN.{length}
+use Rattle.std.proofs.Common.{◌≡◌, drop}
+use Rattle.script.specs.Words.{spelled}
 use Rattle.script.proofs.words.digits.Given as goal
 
-abbrev pub invariant-loop-i : goal.invariant-loop-i
-invariant-loop-i l = l.i ≤ length l.spelling
-
-abbrev pub decreases-loop-i : goal.decreases-loop-i
-decreases-loop-i l = length l.spelling - l.i
+abbrev pub invariant-loop-c : goal.invariant-loop-c
+invariant-loop-c l = spelled l.radix 0 l.spelling ≡ spelled l.radix l.n (drop l.c-index l.spelling)
