@@ -179,7 +179,8 @@ fn gate(p: Processes, grants: Grants) -> Step
     Step::still(p)
 }
 
-// `own` is whether the message was sent to the box's own address.
+// `own` is whether the message was sent to the box's own address. Apart, so that what a step takes of the stack is free again before the call ends.
+#[inline(never)]
 pub fn hear(p: Processes, body: Body, own: bool, random: u32) -> Step
     ensures { result ≡ hear_of body p own random }
 {
