@@ -2,7 +2,7 @@
 #![tactic(auto)]
 
 ghost use Rattle.std.specs.Prelude.{◌≡◌, ◌+◌, ◌≤◌, ◌<◌, ◌∷◌, length, get_or};
-ghost use Rattle.octets.specs.Octets.{bytes, value};
+ghost use Rattle.octets.specs.Octets.{bytes, value, field_of};
 ghost use Rattle.octets.specs.Over.{over};
 ghost use Rattle.frame_queues.specs.Queues.{past_of, used_of, cleared, forty_of, sets_of, fits_sets, ends_at};
 ghost use Rattle.frame_queues.specs.Asked.{padded, asked_of};
@@ -78,6 +78,14 @@ fn lay(mut out: [u8; 40], at: usize, x: u64) -> [u8; 40]
     out
 }
 
+// The number in the eight octets from `at`, or in as many as there are. Apart, so that it is read as one number: `field` over any width, five
+// times in a row, is compiled to single octets.
+fn word(s: &[u8], at: usize) -> u64
+    ensures { result ≡ field_of s.now at 8 }
+{
+    octets::field(s, at, 8)
+}
+
 // A body of so many sets, with these octets and zeros behind them.
 fn begun(number: u8, octets: &[u8]) -> [u8; 40]
     requires { length octets.now ≤ 39 }
@@ -134,11 +142,11 @@ impl Sets {
         ensures { result ≡ sets_of s.now }
     {
         Sets {
-            first: octets::field(s, 0, 8),
-            second: octets::field(s, 8, 8),
-            third: octets::field(s, 16, 8),
-            fourth: octets::field(s, 24, 8),
-            fifth: octets::field(s, 32, 8),
+            first: word(s, 0),
+            second: word(s, 8),
+            third: word(s, 16),
+            fourth: word(s, 24),
+            fifth: word(s, 32),
         }
     }
 
