@@ -6,7 +6,6 @@ use frame::Address;
 use head_judging::Call;
 use script::words::{Pieces, at};
 use script::{messages, words};
-use std::alloc::{AllocError, Global};
 
 #[derive(Clone, Copy)]
 pub enum Asked {
@@ -22,28 +21,21 @@ pub enum Asked {
 
 impl Asked {
     // A line is a name, and numbers behind it; behind `hear` it is a link and a message.
-    pub fn by(alloc: Global, line: &[u8]) -> Result<Option<Asked>, AllocError> {
+    pub fn by(line: &[u8]) -> Option<Asked> {
         let mut words = words::of(line);
         match words.next().unwrap_or_default() {
-            b"hear" => Asked::heard(alloc, words),
-            name => {
-                let numbers = words::numbers(alloc, words)?;
-                Ok(numbers.and_then(|of| Asked::named(name, of.as_slice())))
-            }
+            b"hear" => Asked::heard(words),
+            name => Asked::named(name, words::numbers(words, &mut [0; words::MOST])?),
         }
     }
 
     // A link, and a message's line behind it.
-    fn heard(alloc: Global, behind: Pieces<'_>) -> Result<Option<Asked>, AllocError> {
+    fn heard(behind: Pieces<'_>) -> Option<Asked> {
         let mut words = behind;
-        let Some(link) = words.next().and_then(words::number) else {
-            return Ok(None);
-        };
+        let link = words::number(words.next()?)? as usize;
         let name = words.next().unwrap_or_default();
-        let numbers = words::numbers(alloc, words)?;
-        let message = numbers.and_then(|of| messages::message(name, of.as_slice()));
-        let link = link as usize;
-        Ok(message.map(|message| Asked::Call(Call::Hear { link, message })))
+        let message = messages::message(name, words::numbers(words, &mut [0; words::MOST])?)?;
+        Some(Asked::Call(Call::Hear { link, message }))
     }
 
     // A client's request, or a call of this program's own.

@@ -10,33 +10,28 @@ mod tell;
 
 use asked::Asked;
 use script::input::Input;
-use script::words;
+use script::{input, words};
 use state::Desk;
-use std::alloc::Global;
 use std::io;
 use std::io::Write;
 
-fn run_line(
-    alloc: Global,
-    writer: &mut impl Write,
-    desk: &mut Desk,
-    line: &[u8],
-) -> io::Result<()> {
+fn run_line(writer: &mut impl Write, desk: &mut Desk, line: &[u8]) -> io::Result<()> {
     writer.write_all(line)?;
     if words::passed_on(line) {
         return writeln!(writer);
     }
-    match Asked::by(alloc, line)? {
+    match Asked::by(line) {
         Some(asked) => run::answer(writer, desk, asked),
         None => writeln!(writer, " -> ?"),
     }
 }
 
 fn main(rt: HostRuntime) -> io::Result<()> {
-    let input = Input::read(&rt)?;
+    let mut space = [0; input::MOST];
+    let input = Input::read(&mut rt.stdin(), &mut space)?;
     let mut desk = Desk::first();
     for line in input.lines() {
-        run_line(rt.alloc(), &mut rt.stdout(), &mut desk, line)?;
+        run_line(&mut rt.stdout(), &mut desk, line)?;
     }
     input.tell_cut(&rt, "desk")
 }

@@ -3,7 +3,6 @@ use frame::{Address, Message};
 use frame_queues::Sets;
 use script::words::at;
 use script::{messages, words};
-use std::alloc::{AllocError, Global};
 
 #[derive(Clone, Copy)]
 pub enum Call {
@@ -39,11 +38,10 @@ pub enum Look {
 
 impl Call {
     // A line is a name, and numbers behind it.
-    pub fn by(alloc: Global, line: &[u8]) -> Result<Option<Call>, AllocError> {
+    pub fn by(line: &[u8]) -> Option<Call> {
         let mut words = words::of(line);
         let name = words.next().unwrap_or_default();
-        let numbers = words::numbers(alloc, words)?;
-        Ok(numbers.and_then(|of| Call::named(name, of.as_slice())))
+        Call::named(name, words::numbers(words, &mut [0; words::MOST])?)
     }
 
     // A message's name has capitals, and the others are this program's own.

@@ -10,23 +10,17 @@ use box_calls::{Answer, FloorBox};
 use calls::Call;
 use frame::Address;
 use script::input::Input;
-use script::words;
-use std::alloc::Global;
+use script::{input, words};
 use std::io;
 use std::io::Write;
 
-fn run_line(
-    alloc: Global,
-    writer: &mut impl Write,
-    last: Answer,
-    line: &[u8],
-) -> io::Result<Answer> {
+fn run_line(writer: &mut impl Write, last: Answer, line: &[u8]) -> io::Result<Answer> {
     writer.write_all(line)?;
     if words::passed_on(line) {
         writeln!(writer)?;
         return Ok(last);
     }
-    match Call::by(alloc, line)? {
+    match Call::by(line) {
         Some(call) => run::answer(writer, last, call),
         None => {
             writeln!(writer, " -> ?")?;
@@ -36,11 +30,12 @@ fn run_line(
 }
 
 fn main(rt: HostRuntime) -> io::Result<()> {
-    let input = Input::read(&rt)?;
+    let mut space = [0; input::MOST];
+    let input = Input::read(&mut rt.stdin(), &mut space)?;
     // Before the first fresh box there is a refused one.
     let mut last = FloorBox::fresh(Address(0));
     for line in input.lines() {
-        last = run_line(rt.alloc(), &mut rt.stdout(), last, line)?;
+        last = run_line(&mut rt.stdout(), last, line)?;
     }
     input.tell_cut(&rt, "life")
 }

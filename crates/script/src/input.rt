@@ -1,38 +1,48 @@
 // Standard input, as much of it as a program reads.
-ghost use Rattle.std.specs.Prelude.{◌≡◌, ◌≤◌, vec_len, vec_items};
+ghost use Rattle.std.specs.Prelude.{◌≡◌, ◌≤◌, length, IfOk};
 
 use crate::words::Pieces;
-use std::alloc::Global;
 use std::io;
 use std::io::Read;
 
 // Octets.
-const MOST: usize = 65_536;
+pub const MOST: usize = 65_536;
 
-#[derive(Drop)]
-pub struct Input {
-    pub text: Vec<u8>,
-    pub ghost within: { vec_len text ≤ 65536 },
+// Reads until the memory is full or the input ends; how many octets stand at its start then.
+pub fn read_full(reader: &mut impl Read, space: &mut [u8]) -> io::Result<usize>
+    ensures { IfOk result (λ n. n ≤ length space.new) }
+{
+    let mut done = 0;
+    while done < space.len() {
+        let n = reader.read(&mut space[done..])?;
+        if n == 0 {
+            return Ok(done);
+        }
+        done += n;
+    }
+    Ok(done)
 }
 
-impl Input {
-    pub fn read(rt: &(impl std::io::Input + AllocGlobal)) -> io::Result<Input> {
-        Input::of(rt.alloc(), rt.reader())
+// In memory that is lent for it.
+#[derive(Clone, Copy)]
+pub struct Input<'a> {
+    pub text: &'a [u8],
+    pub ghost within: { length text.now ≤ 65536 },
+}
+
+impl<'a> Input<'a> {
+    pub fn read(reader: &mut impl Read, space: &'a mut [u8; MOST]) -> io::Result<Input<'a>> {
+        let done = read_full(reader, space)?;
+        Ok(Input {
+            text: &space[..done],
+        })
     }
 
-    fn of(alloc: Global, reader: impl Read + Drop) -> io::Result<Input> {
-        let mut text = Vec::new(alloc);
-        reader.take(MOST as u64).read_to_end(&mut text)?;
-        // Drops nothing: no more than `take` lets through was read, which its contract does not say.
-        text.truncate(MOST);
-        Ok(Input { text })
-    }
-
-    pub fn lines(&self) -> Pieces<'_>
-        ensures rest { result.rest.now ≡ vec_items self.now.text }
+    pub fn lines(&self) -> Pieces<'a>
+        ensures rest { result.rest.now ≡ self.now.text.now }
         ensures end { result.end ≡ 10 }
     {
-        Pieces::new(self.text.as_slice(), b'\n')
+        Pieces::new(self.text, b'\n')
     }
 
     // Says so where there may be more than was read.
@@ -51,7 +61,8 @@ mod tests {
 
     #[test]
     fn reads(rt: HostRuntime) -> Result<(), Fail> {
-        let input = Input::of(rt.alloc(), b"fresh 2\n\n# tick".as_slice())?;
+        let mut space = [0; MOST];
+        let input = Input::read(&mut b"fresh 2\n\n# tick".as_slice(), &mut space)?;
         let mut lines = input.lines();
         for line in ["fresh 2", "", "# tick"] {
             assert_eq!(rt; lines.next().unwrap_or_default(), line.as_bytes());
@@ -64,7 +75,8 @@ mod tests {
     fn ends_at_the_most(rt: HostRuntime) -> Result<(), Fail> {
         let octets = [b'-'; MOST + 1];
         for (length, read) in [(0, 0), (MOST - 1, MOST - 1), (MOST, MOST), (MOST + 1, MOST)] {
-            let input = Input::of(rt.alloc(), &octets[..length])?;
+            let mut space = [0; MOST];
+            let input = Input::read(&mut &octets[..length], &mut space)?;
             assert_eq!(rt; input.text.len(), read, "of {length}");
         }
         Ok(())

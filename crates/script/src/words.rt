@@ -1,9 +1,7 @@
 // The words of a line, and the numbers that they spell.
-ghost use Rattle.std.specs.Prelude.{◌≡◌, ◌≢◌, ◌≤◌, ◌<◌, ℕ, length, slice_index, get_or, IfSome, IfOk, vec_len};
+ghost use Rattle.std.specs.Prelude.{◌≡◌, ◌≢◌, ◌≤◌, ◌<◌, ℕ, length, slice_index, get_or, IfSome};
 ghost use Rattle.std.specs.Iterator.{at_most};
 ghost use Rattle.script.specs.Words.{passed_on, digit_of, spelled, number_of};
-
-use std::alloc::{AllocError, Global};
 
 // The most that a call takes: a GATE's addresses, timestamp and four grants.
 pub const MOST: usize = 15;
@@ -113,18 +111,16 @@ pub fn number(word: &[u8]) -> Option<u64>
     }
 }
 
-// The numbers that words spell; none where a word spells none, or there are more than any call takes.
-pub fn numbers(alloc: Global, words: Pieces<'_>) -> Result<Option<Vec<u64>>, AllocError>
-    ensures { IfOk result (λ r. IfSome r (λ v. vec_len v ≤ 15)) }
+// The numbers that words spell, in memory that is lent for them; none where a word spells none, or there are more than any call takes.
+pub fn numbers<'a>(words: Pieces<'_>, space: &'a mut [u64; MOST]) -> Option<&'a [u64]>
+    ensures { IfSome result (λ of. length of.now ≤ 15) }
 {
-    let mut of = Vec::new(alloc);
+    let mut n = 0;
     for word in words {
-        match number(word) {
-            Some(n) if of.len() < MOST => of.push(n)?,
-            _ => return Ok(None),
-        }
+        *space.get_mut(n)? = number(word)?;
+        n += 1;
     }
-    Ok(Some(of))
+    space.get(..n)
 }
 
 // Of a line's numbers one by its place; one that is left out is 0.
@@ -141,16 +137,16 @@ mod tests {
 
     #[test]
     fn spells(rt: HostRuntime) -> Result<(), Fail> {
-        let words = of(b"1 0x10 3");
-        let some = numbers(rt.alloc(), words)?.ok_or("none")?;
-        assert_eq!(rt; some.as_slice(), [1, 16, 3].as_slice());
+        let mut space = [0; MOST];
+        let some = numbers(of(b"1 0x10 3"), &mut space).ok_or("none")?;
+        assert_eq!(rt; some, [1, 16, 3].as_slice());
         let most = of(b"1 2 3 4 5 6 7 8 9 10 11 12 13 14 15");
-        let some = numbers(rt.alloc(), most)?.ok_or("none")?;
+        let some = numbers(most, &mut space).ok_or("none")?;
         assert_eq!(rt;
-            some.as_slice(),
+            some,
             [1, 2, 3, 4, 5, 6, 7, 8, 9, 10, 11, 12, 13, 14, 15].as_slice()
         );
-        let some = numbers(rt.alloc(), of(b""))?.ok_or("none")?;
+        let some = numbers(of(b""), &mut space).ok_or("none")?;
         assert!(rt; some.is_empty());
         Ok(())
     }
@@ -166,7 +162,8 @@ mod tests {
             "99999999999999999999",
         ];
         for line in lines {
-            let none = numbers(rt.alloc(), of(line.as_bytes()))?;
+            let mut space = [0; MOST];
+            let none = numbers(of(line.as_bytes()), &mut space);
             assert!(rt; none.is_none(), "{line}");
         }
         Ok(())

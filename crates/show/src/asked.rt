@@ -4,17 +4,16 @@ use crate::hex;
 use clock::Count;
 use frame::{Message, Reply};
 use script::out::Octets;
-use std::alloc::{AllocError, Global};
 use std::io;
 use std::io::Write;
 
-// Digits: two for each of 256 octets.
-const LONGEST: usize = 512;
+// The most that a frame's digits spell.
+pub const LONGEST: usize = 256;
 
-#[derive(Drop)]
-pub enum Asked {
+#[derive(Clone, Copy)]
+pub enum Asked<'a> {
     // What a frame says.
-    Reading(Vec<u8>),
+    Reading(&'a [u8]),
     // What the writer says to messages that have no frame.
     Writing,
 }
@@ -51,20 +50,19 @@ fn answer_writing(writer: &mut impl Write) -> io::Result<()> {
     Ok(())
 }
 
-impl Asked {
+impl<'a> Asked<'a> {
     // Digits of a frame, `-` for one of no octets, or `write`.
-    pub fn by(alloc: Global, line: &[u8]) -> Result<Option<Asked>, AllocError> {
+    pub fn by(line: &[u8], space: &'a mut [u8; LONGEST]) -> Option<Asked<'a>> {
         match line {
-            b"write" => Ok(Some(Asked::Writing)),
-            b"-" => Ok(Some(Asked::Reading(Vec::new(alloc)))),
-            _ if line.len() > LONGEST => Ok(None),
-            _ => Ok(hex::octets(alloc, line)?.map(Asked::Reading)),
+            b"write" => Some(Asked::Writing),
+            b"-" => Some(Asked::Reading(&[])),
+            _ => Some(Asked::Reading(hex::octets(line, space)?)),
         }
     }
 
-    pub fn answer(&self, writer: &mut impl Write) -> io::Result<()> {
+    pub fn answer(self, writer: &mut impl Write) -> io::Result<()> {
         match self {
-            Asked::Reading(octets) => answer_reading(writer, octets.as_slice()),
+            Asked::Reading(octets) => answer_reading(writer, octets),
             Asked::Writing => answer_writing(writer),
         }
     }

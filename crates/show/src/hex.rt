@@ -1,5 +1,4 @@
 // Octets spelt out as hexadecimal digits, two to an octet.
-use std::alloc::{AllocError, Global};
 
 fn octet(digits: &[u8]) -> Option<u8> {
     let [high, low] = digits else {
@@ -10,14 +9,12 @@ fn octet(digits: &[u8]) -> Option<u8> {
     u8::try_from(16 * high + low).ok()
 }
 
-// None where one of them is no digit, or has none beside it.
-pub fn octets(alloc: Global, digits: &[u8]) -> Result<Option<Vec<u8>>, AllocError> {
-    let mut octets = Vec::new(alloc);
+// In memory that is lent for them. None where one of them is no digit, or has none beside it, or there are too many.
+pub fn octets<'a>(digits: &[u8], space: &'a mut [u8]) -> Option<&'a [u8]> {
+    let mut n = 0;
     for pair in digits.chunks(2) {
-        let Some(octet) = octet(pair) else {
-            return Ok(None);
-        };
-        octets.push(octet)?;
+        *space.get_mut(n)? = octet(pair)?;
+        n += 1;
     }
-    Ok(Some(octets))
+    space.get(..n)
 }

@@ -5,18 +5,17 @@ mod asked;
 mod frames;
 mod hex;
 
-use asked::Asked;
+use asked::{Asked, LONGEST};
 use script::input::Input;
-use script::words;
-use std::alloc::Global;
+use script::{input, words};
 use std::io;
 use std::io::Write;
 
-fn show_line(alloc: Global, writer: &mut impl Write, line: &[u8], number: u64) -> io::Result<()> {
+fn show_line(writer: &mut impl Write, line: &[u8], number: u64) -> io::Result<()> {
     if words::passed_on(line) {
         writer.write_all(line)?;
     } else {
-        match Asked::by(alloc, line)? {
+        match Asked::by(line, &mut [0; LONGEST]) {
             Some(asked) => asked.answer(writer)?,
             None => write!(writer, "? {number}")?,
         }
@@ -25,9 +24,10 @@ fn show_line(alloc: Global, writer: &mut impl Write, line: &[u8], number: u64) -
 }
 
 fn main(rt: HostRuntime) -> io::Result<()> {
-    let input = Input::read(&rt)?;
+    let mut space = [0; input::MOST];
+    let input = Input::read(&mut rt.stdin(), &mut space)?;
     for (line, number) in input.lines().zip(1u64..) {
-        show_line(rt.alloc(), &mut rt.stdout(), line, number)?;
+        show_line(&mut rt.stdout(), line, number)?;
     }
     input.tell_cut(&rt, "show")
 }
