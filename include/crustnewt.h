@@ -63,10 +63,10 @@ extern "C" {
 #endif
 
 /* The version of the library, as `crustnewt --version` and pkg-config tell it. */
-#define CRUSTNEWT_VERSION "0.6.1"
+#define CRUSTNEWT_VERSION "0.6.2"
 #define CRUSTNEWT_VERSION_MAJOR 0
 #define CRUSTNEWT_VERSION_MINOR 6
-#define CRUSTNEWT_VERSION_PATCH 1
+#define CRUSTNEWT_VERSION_PATCH 2
 
 /* How many elements to lend. */
 #define CRUSTNEWT_FRAME_OCTETS 60
